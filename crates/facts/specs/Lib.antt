@@ -1,0 +1,4 @@
+-- The definitions that the contracts of `facts` cite, and their laws.
+pub mod Bits
+pub mod Laws
+pub mod Pack
