@@ -1,0 +1,4 @@
+-- The definitions that the contracts of `tables` cite.
+pub mod Lengths
+pub mod Pad
+pub mod Place
