@@ -2,3 +2,4 @@
 pub mod Bits
 pub mod Laws
 pub mod Pack
+pub mod Sets

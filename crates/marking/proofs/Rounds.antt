@@ -1,0 +1,78 @@
+-- Sweep after sweep, the table comes to the counts of the marking.
+use mathlib.Core.Path.{_≡_, refl, sym, ap, _∙_}
+use mathlib.Core.Bool.{Bool, true, false, not, cond}
+use mathlib.Core.List.{List}
+use Prim.Native.Nat.{ℕ, suc, _+_, _-_, _≤_, _<_}
+use native.Mathlib.Omega.{arith}
+use native.Mathlib.Numerals.{add-one}
+use lib.ListN.{getD, length}
+use borrow.Author.Tests.{eq-eqb, not-true}
+use Rattle.atl.specs.Bounded.{tabulate}
+use Rattle.atl.specs.Game.{Game, IsGame, States}
+use Rattle.atl.specs.Marking.{unset, recount, swept, inPlace}
+use Rattle.atl.proofs.Bounded.{and-left, and-right, and-both, unless-true, clash}
+use Rattle.atl.proofs.Play as play
+use Rattle.atl.proofs.Spread as spread
+use Rattle.atl.proofs.InPlace.{in-place}
+use Rattle.marking.specs.Table.{inTables, Tables}
+use Rattle.marking.proofs.Position.{getD-default}
+use Rattle.marking.specs.Rule.{rule, Counts}
+
+-- the tables are a game
+pub is-game : (n : ℕ) (starts successors classes : List ℕ) → Tables n starts successors classes → IsGame (inTables n starts successors classes)
+is-game n starts successors classes s = record {
+  movable = λ i h. let z = s .placed .up i h in omega arith;
+  stays = λ i j h l. s .landed i h j l;
+  agrees = λ i j h l. eq-eqb (getD classes (getD starts i 0 + j) 0) _ refl;
+}
+
+-- more is reached from more
+module _ (G : Game) (law : IsGame G) (a : States) where
+  pub rule-mono : (want : Bool) (v w : States) → spread.Holds (G .states) v w → spread.Holds (G .states) (rule G want a v) (rule G want a w)
+  unfolding rule
+  rule-mono true v w f i h e = and-both (and-left (a i) _ e) (play.force-mono G law v w f i h (and-right (a i) _ e))
+  rule-mono false v w f i h e =
+      and-both (and-left (a i) _ e)
+      (ap not (unless-true _ (λ q. clash (play.force-mono G law (λ j. not (w j)) (λ j. not (v j)) back i h q) (not-true _ (and-right (a i) _ e)))))
+    where
+      back : spread.Holds (G .states) (λ j. not (w j)) (λ j. not (v j))
+      back j l q = ap not (unless-true _ (λ m. clash (f j l m) (not-true _ q)))
+
+-- the table after r sweeps
+module _ {n : ℕ} {starts successors classes : List ℕ} (s : Tables n starts successors classes) (small : n < unset) (want : Bool) (a b : States) where
+  abbrev q : States → States
+  q = rule (inTables n starts successors classes) want a
+
+  mono : (v w : States) → spread.Holds n v w → spread.Holds n (q v) (q w)
+  mono = rule-mono (inTables n starts successors classes) (is-game n starts successors classes s) a want
+
+  pub count-none : (m : List ℕ) → m ≡ tabulate n (λ i. cond (b i) 0 unset) → m ≡ swept n q b 0
+  unfolding swept
+  count-none m e = e
+
+  module _ (r : ℕ) (m : List ℕ) (d : m ≡ swept n q b r) where
+    pub count-length : length m ≡ n
+    count-length = ap length d ∙ spread.length-swept n q mono b r
+
+    pub count-counts : r < n → Counts r m
+    count-counts h i k o =
+        let z = getD-default m i 0 unset k in
+        let y : getD m i unset ≡ getD (swept n q b r) i unset = ap (λ (x : List ℕ). getD x i unset) d in
+        z ∙ y ∙ spread.swept-counts n q mono b r i (omega arith) (omega (arith, count-length)) (omega arith)
+
+    more : r < n → (m′ : List ℕ) → m′ ≡ inPlace q r m n → m′ ≡ swept n q b (suc r)
+    unfolding swept
+    more h m′ f =
+        f ∙ in-place n q (spread.p-cong n q mono b) r (omega arith) m count-length ∙ ap (λ (x : List ℕ). tabulate n (recount q r x)) d
+
+    pub count-more : r < n → (m′ : List ℕ) → m′ ≡ inPlace q r m n → m′ ≡ swept n q b (r + 1)
+    count-more h m′ f = rw add-one (more h m′ f)
+
+    -- a sweep that changes nothing is the last
+    pub count-still : r < n → (m′ : List ℕ) → m′ ≡ inPlace q r m n → m′ ≡ m → m′ ≡ swept n q b n
+    count-still h m′ f e =
+        let t : swept n q b (suc r) ≡ swept n q b r = sym (more h m′ f) ∙ e ∙ d in
+        e ∙ d ∙ sym (spread.enough n q mono b r n (omega arith) (omega arith) small t)
+
+    pub count-all : r ≤ n → (x : ℕ) → x ≡ r → n ≤ x → m ≡ swept n q b n
+    count-all h x e k = let z : r ≡ n = omega arith in d ∙ ap (swept n q b) z

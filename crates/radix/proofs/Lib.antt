@@ -1,0 +1,3 @@
+-- The laws of classes.
+pub mod Laws
+pub mod Filling

@@ -1,0 +1,2 @@
+-- The definitions that the contracts of `radix` cite.
+pub mod Classes
