@@ -1,11 +1,10 @@
 -- The laws of sets of facts as numbers.
-use mathlib.Core.Path.{_≡_, refl, sym, ap, ap₂, _∙_, subst}
-use mathlib.Core.Bool.{Bool, true, false, not, _||_, _&&_}
+use mathlib.Core.Path.{_≡_, refl, sym, ap, _∙_, subst}
+use mathlib.Core.Bool.{Bool, true, false, _||_, _&&_}
 use mathlib.Core.Logic.{_⊎_, inl, inr}
 use Prim.Native.Nat.{ℕ, zero, suc, _+_, _-_, _*_, _/_, _%_, _^_, _≤_, _<_, min, max}
-use native.Mathlib.Nat.{div-one, div-self, div-eq-of-lt, lt-of-lt-of-le, pow-suc, one-mul, zero-mul, add-zero, mul-div-cancel, mul-mod-left, mod-eq-of-lt, ne-of-gt}
-use borrow.Author.Tests.{eqb-true, eqb-false, ne-eqb}
-use native.Mathlib.Numerals.{one-add, add-one}
+use native.Mathlib.Nat.{div-one, div-eq-of-lt, lt-of-lt-of-le, pow-suc, one-mul, mul-mod-left, mod-eq-of-lt}
+use native.Mathlib.Numerals.{one-add}
 use native.Mathlib.Omega.{arith}
 use lib.Dec.{eqb, eqb·zero-suc, eqb·suc-zero, eqb·suc-suc}
 use lib.Pow.{pow-pos, pow-mono, pow-lt, shr-shr}

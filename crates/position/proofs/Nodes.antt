@@ -18,7 +18,7 @@ use Rattle.sheet.specs.Data.{Sheet}
 use Rattle.sheet.specs.Fields.{lim, within, nodeTable, nodeLimits, nodeFits, NodesFit, Fits}
 use Rattle.sheet.specs.Fields as fields
 use Rattle.sheet.specs.Question.{questionTable, questionOf}
-use Rattle.meaning.specs.Atl.{Node, TEST, Below, InOrder}
+use Rattle.meaning.specs.Atl.{TEST, Below, InOrder}
 use Rattle.position.specs.Meaning.{askedBy, blank, nodeOf, nodesAfter, nodesOf}
 
 pub nodes-long : (xs : List sheet.Node) (j : ℕ) → length (nodesAfter j xs) ≡ length xs

@@ -22,16 +22,16 @@ use Rattle.rules.specs.Rules.{doesSet, legalSet, nextFacts, initFacts}
 use Rattle.rules.proofs.Laws.{legal-lt}
 use Rattle.rules.proofs.Says.{gathered-is, next-is, legal-is, terminal-is, goal-is, init-is, does-is}
 use Rattle.views.specs.declared.Strata.the-variants as strata
-use Rattle.views.specs.Meaning.{viewRules, Stratified}
+use Rattle.views.specs.Meaning.{At, viewRules, Stratified}
 use Rattle.views.specs.Sheet.{answer}
 use Rattle.views.proofs.Fits.{sheet-fits}
-use Rattle.views.proofs.Says.{accepted-is, views-is, views-only}
+use Rattle.views.proofs.Says.{accepted-is, look-at, look-only}
 use Rattle.choices.specs.Moves.{members}
 use Rattle.choices.proofs.Members.{member-is, members-ascending, ascending-unique}
 use Rattle.meaning.specs.Lists.{_∈_}
 use Rattle.meaning.specs.Rules.{Rules}
 use Rattle.position.specs.Choices.{choices}
-use Rattle.position.specs.Meaning.{At, IsChoice, Tests, askedBy, Follows, GameOf}
+use Rattle.position.specs.Meaning.{IsChoice, Tests, askedBy, Follows, GameOf}
 use Rattle.position.specs.Position.{still, lookIn, says, rulesOf}
 use Rattle.position.proofs.Fitting.{Room, sizes-room, rule-fits, init-below, next-below, legal-below}
 use Rattle.position.proofs.Same.{fires-still}
@@ -166,24 +166,16 @@ module _ (d : Sheet) (fit : Fits d) where
     accepted : answer rs ≡ strata.Stratified
     accepted = accepted-is rs (sheet-fits d fit) .1 ok
 
-    -- literals are read off one look only
-    at-is : (s : ℕ) (m : List ℕ) (k : Look) → At rs s m k → lookIn rs s m ≡ k
-    at-is s m k a =
-        let f = sym (a .facts-are) in
-        let v = sym (views-only rs (sheet-fits d fit) accepted s (k .views .bits) (a .views-are)) in
-        let n = sym (a .moves-are) in
-        λ i. record { facts = record { bits = f i }; views = record { bits = v i }; moves = n i }
-
     pub rules-right : GameOf d (rulesOf d)
     rules-right = record {
       roles = refl;
       initial = init-right;
       ascending = λ s role. members-ascending (choices (legalSet rs (lookIn rs s still) role) (doesSet role rs 0));
-      follows = λ s m k a. subst (Follows d (rulesOf d) s m) (at-is s m k a) (follows-at s m);
+      follows = λ s m k a. subst (Follows d (rulesOf d) s m) (sym (look-only rs (sheet-fits d fit) accepted s m k a)) (follows-at s m);
     }
 
     at-look : (s : ℕ) (m : List ℕ) → At rs s m (lookIn rs s m)
-    at-look s m = record { facts-are = refl; views-are = views-is rs (sheet-fits d fit) accepted s; moves-are = refl }
+    at-look s m = look-at rs (sheet-fits d fit) accepted s m
 
     -- two games of one sheet are equal, place by place
     module _ (R Q : Rules) (g : GameOf d R) (h : GameOf d Q) where

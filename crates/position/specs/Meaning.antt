@@ -15,17 +15,11 @@ use Rattle.sheet.specs.declared.question.Question.the-variants as question
 use Rattle.sheet.specs.Question.{questionOf}
 use Rattle.rules.specs.declared.Look.{Look}
 use Rattle.rules.specs.Meaning.{NextHolds, LegalHolds, GoalHolds, TerminalHolds, InitHolds, Occurs}
-use Rattle.views.specs.Meaning.{viewRules, IsViews}
+use Rattle.views.specs.Meaning.{At}
 use Rattle.choices.specs.Ascending.{Ascending}
 use Rattle.meaning.specs.Lists.{_∈_}
 use Rattle.meaning.specs.Rules.{Rules}
 use Rattle.meaning.specs.Atl.{Kind, NEXT, ALWAYS, EVENTUALLY, UNTIL, Node, TEST, NOT, AND, OR, CAN}
-
--- Literals are read off k in state s, where the roles make the moves m: its facts, its views, and these moves.
-pub record At (rs : List Rule) (s : ℕ) (m : List ℕ) (k : Look) : Type 0 where
-  pub facts-are : k .facts .bits ≡ s
-  pub views-are : IsViews (viewRules rs) s (k .views .bits)
-  pub moves-are : k .moves ≡ m
 
 -- A choice of a role: a move of it that is LEGAL.
 unfoldable pub IsChoice : List Rule → Look → ℕ → ℕ → Type 0

@@ -1,5 +1,5 @@
 -- Worked cases over a sheet's rules: the answer to refusal 5 and the views that the code gives, and what the theorems then say of them.
-use mathlib.Core.Path.{_≡_, refl, subst}
+use mathlib.Core.Path.{_≡_, refl, sym, _∙_, subst}
 use mathlib.Core.Bool.{Bool, true, _&&_}
 use mathlib.Core.List.{List, [], _∷_}
 use Prim.Native.Nat.{ℕ}
@@ -12,12 +12,12 @@ use Rattle.sheet.specs.Data.{Part, part, Rule, rulesFrom}
 use Rattle.sheet.specs.Fields as fields
 use Rattle.sheet.specs.Fields.{RulesFit}
 use Rattle.views.specs.declared.Strata.the-variants as strata
-use Rattle.views.specs.Meaning.{viewRules, IsViews, IsPlace}
+use Rattle.views.specs.Meaning.{viewRules, IsViews, Stratified, IsPlace}
 use Rattle.views.specs.Reference.{refused, views}
 use Rattle.views.specs.Sheet.{ViewsFit, answer, viewsAt, masksOf}
 use Rattle.views.proofs.Lists.{and-left, and-right}
 use Rattle.views.proofs.Fits.{views-fit, views-more}
-use Rattle.views.proofs.Says.{place-is, views-is, views-same}
+use Rattle.views.proofs.Says.{accepted-is, place-is, views-is, views-same}
 
 infix 45 _if_
 -- VIEW v from the literals
@@ -129,6 +129,13 @@ ring-refused : answer ring ≡ strata.NotStratified 1
 unfolding answer refused ring
 ring-refused = refl
 
+ring-fits : within ring ≡ true
+unfolding within ring
+ring-fits = refl
+
+ring-place : IsPlace (viewRules ring) 1
+ring-place = place-is ring (fit ring ring-fits) 1 .0 ring-refused
+
 -- the same ring with no NOT in it is accepted, and the NOT of it from outside is true
 calm : List Rule
 calm = (0 if NOT-VIEW 3 ∷ []) ∷ (3 if VIEW 1 ∷ []) ∷ (1 if TRUE 0 ∷ VIEW 2 ∷ []) ∷ (2 if VIEW 3 ∷ []) ∷ []
@@ -153,3 +160,14 @@ eight = (0 if VIEW 1 ∷ []) ∷ (1 if VIEW 0 ∷ []) ∷ (1 if NOT-VIEW 2 ∷ [
 eight-refused : answer eight ≡ strata.NotStratified 0
 unfolding answer refused eight
 eight-refused = refl
+
+eight-fits : within eight ≡ true
+unfolding within eight
+eight-fits = refl
+
+eight-place : IsPlace (viewRules eight) 0
+eight-place = place-is eight (fit eight eight-fits) 0 .0 eight-refused
+
+-- ---- the liar has no levels, by the meaning
+liar-not : ¬ Stratified (viewRules liar)
+liar-not s = absurd (let e = sym (accepted-is liar (fit liar liar-fits) .1 s) ∙ liar-refused in let z : _≡_ {A = ℕ} 0 1 = cc in omega arith)

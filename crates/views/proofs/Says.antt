@@ -208,3 +208,7 @@ module _ (rs : List Rule) (fit : ViewsFit 64 rs) where
         let x = viewsAt rs facts (masksOf rs) in
         let small : x < 2 ^ N = width-of N x (λ v i. head-low N x (rules-fit N rs low) (views-is v .0 i)) in
         omega (arith, sweeps-most (sweepOf rs (lookAt facts)) (sweep-grows rs (lookAt facts)) (masksOf rs) 0, ones-le N x small)
+
+  -- the views of a stratified sheet exist, and there is one set of them
+  pub one-set : Stratified (viewRules rs) → (facts : ℕ) → (m : ℕ) × IsViews (viewRules rs) facts m × ((n : ℕ) → IsViews (viewRules rs) facts n → n ≡ m)
+  one-set s facts = let ok = accepted-is .1 s in (viewsAt rs facts (masksOf rs), views-is ok facts, views-only ok facts)

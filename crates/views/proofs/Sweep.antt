@@ -5,7 +5,7 @@ use mathlib.Core.Logic.{⊎-elim}
 use mathlib.Core.List.{List, [], _∷_, List·Memᴰ·head, List·Memᴰ·tail}
 use Prim.Native.Nat.{ℕ, _^_, _<_}
 use borrow.Author.Tests.{eqb-true}
-use Rattle.facts.specs.Bits.{bit, has, insert}
+use Rattle.facts.specs.Bits.{bit, insert}
 use Rattle.facts.specs.Laws.{insert-lt}
 use Rattle.facts.specs.Sets.{_∈_, _∉_, _⊆_, same-bit, same-set, insert-new, insert-old, insert-cases}
 use Rattle.rules.proofs.Walk.{over-keeps}

@@ -1,0 +1,93 @@
+-- `model::build` meets its contract: the tables begin with the initial state, and a refusal clears them again.
+use native.Mathlib.Omega.{arith}
+use Rattle.sheet.specs.Reading.{sheetIn}
+use Rattle.position.specs.Position.{rulesOf}
+use Rattle.model.proofs.Beginning.{zeros, first}
+use Rattle.model.proofs.Exploring.{accepted, refused-all, staged-sizes}
+use borrow.Author.Needs.{needs}
+use Rattle.model.proofs.build.Statement.{statement}
+use Rattle.model.proofs.build.Tie as tie
+
+initial-requires : tie.Need-initial-requires
+initial-requires c κs = search needs
+
+reset-requires : tie.Need-reset-requires
+reset-requires c κs = search needs
+
+explore-requires : tie.Need-explore-requires
+explore-requires c κs =
+    let at-reset = c .before .before .before .before .before .before .before .before .before .before .before .before in
+    let at-initial = at-reset .before .before .before .before .before in
+    let start = at-initial .before .before .before .before .before .before in
+    (start .pre .0, start .pre .1, first (rulesOf (sheetIn (start .args .s .now) (start .args .y))) (at-reset .reset .ensures) (at-initial .initial .ensures) (omega arith))
+
+enum-known-built : tie.Need-enum-known-built
+enum-known-built c = search needs
+
+reset-requires-2 : tie.Need-reset-requires-2
+reset-requires-2 c κs =
+    let at-explore = c .before .before .before .before .before .before .before .before .before .before .before .before .before .before .before in
+    let at-reset = at-explore .before .before .before .before .before .before .before .before .before .before .before .before .before in
+    let at-initial = at-reset .before .before .before .before .before in
+    let start = at-initial .before .before .before .before .before .before in
+    record { states-long = omega (arith, at-explore .explore .kept .1 .1 .1 .1 .0, staged-sizes (first (rulesOf (sheetIn (start .args .s .now) (start .args .y))) (at-reset .reset .ensures) (at-initial .initial .ensures) (omega arith)) .states-long); starts-long = omega (arith, at-explore .explore .kept .1 .1 .1 .1 .1 .0, staged-sizes (first (rulesOf (sheetIn (start .args .s .now) (start .args .y))) (at-reset .reset .ensures) (at-initial .initial .ensures) (omega arith)) .starts-long); successors-long = omega (arith, at-explore .explore .kept .1 .1 .1 .1 .1 .1 .0, staged-sizes (first (rulesOf (sheetIn (start .args .s .now) (start .args .y))) (at-reset .reset .ensures) (at-initial .initial .ensures) (omega arith)) .successors-long); counts-long = omega (arith, at-explore .explore .kept .1 .1 .1 .1 .1 .1 .1 .0, staged-sizes (first (rulesOf (sheetIn (start .args .s .now) (start .args .y))) (at-reset .reset .ensures) (at-initial .initial .ensures) (omega arith)) .counts-long) }
+
+same-length : tie.Need-same-length
+same-length c = search needs
+
+same-length-2 : tie.Need-same-length-2
+same-length-2 c = search needs
+
+same-length-3 : tie.Need-same-length-3
+same-length-3 c = search needs
+
+same-length-4 : tie.Need-same-length-4
+same-length-4 c = search needs
+
+returns : tie.Need-returns
+returns c =
+    let at-reset2 = c .before .before .before .before .before .before .before .before in
+    let at-built = at-reset2 .before .before .before .before .before .before in
+    let at-explore = at-built .before .before .before .before .before .before .before .before .before .before in
+    refused-all _ _ _ _ _ _ _ (at-explore .explore .ensures) _ _ _ _ (at-built .built .given .1) (zeros (omega arith) (at-reset2 .reset2 .ensures))
+
+enum-told : tie.Need-enum-told
+enum-told c = search needs
+
+same-length-5 : tie.Need-same-length-5
+same-length-5 c = search needs
+
+same-length-6 : tie.Need-same-length-6
+same-length-6 c = search needs
+
+same-length-7 : tie.Need-same-length-7
+same-length-7 c = search needs
+
+same-length-8 : tie.Need-same-length-8
+same-length-8 c = search needs
+
+returns-2 : tie.Need-returns-2
+returns-2 c =
+    let at-explore = c .before .before .before .before .before .before .before .before .before .before in
+    accepted _ _ _ _ _ _ _ (at-explore .explore .ensures) (c .enum-told .given .1)
+
+pub build-spec : {M : Type 1} → statement M
+build-spec =
+    tie.close
+    (tie.spec
+    initial-requires
+    reset-requires
+    explore-requires
+    enum-known-built
+    reset-requires-2
+    same-length
+    same-length-2
+    same-length-3
+    same-length-4
+    returns
+    enum-told
+    same-length-5
+    same-length-6
+    same-length-7
+    same-length-8
+    returns-2)

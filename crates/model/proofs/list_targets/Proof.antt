@@ -1,0 +1,130 @@
+-- `model::list_targets` meets its contract. The invariant: the first j targets are entered, and their numbers stored.
+use borrow.Author.Needs.{needs}
+use native.Mathlib.Omega.{arith}
+use Prim.Native.Nat.{_+_, _-_, _≤_}
+use lib.ListN.{take}
+use Rattle.tables.specs.Lengths.{stateLimit, moveLimit}
+use Rattle.atl.specs.Bounded.{tabulate}
+use Rattle.sheet.specs.Reading.{sheetIn}
+use Rattle.offer.specs.Offer.{targetOf}
+use Rattle.model.proofs.Targets.{Going, going-none, going-fits, going-more, going-over, going-all}
+use Rattle.model.proofs.Holding.{holds-length, holds-clean}
+use Rattle.model.proofs.list_targets.Statement.{statement}
+use Rattle.model.proofs.list_targets.Tie as tie
+
+abbrev Inv-loop : tie.InvT-loop
+Inv-loop s y o m states₀ n successors₀ at count₀ j₀ states successors count j = (j ≤ m) × Going stateLimit moveLimit (take n states₀) (take at successors₀) (tabulate m (targetOf (sheetIn s y) o)) j states count successors (at + j)
+
+abbrev μ-loop : tie.MeasureT-loop
+μ-loop s y o m states₀ n successors₀ at count₀ j₀ states successors count j = m - j
+
+loop-holds : tie.Need-loop-holds Inv-loop μ-loop
+loop-holds c =
+    let start = c .before .before .before in
+    (omega arith, going-none _ (start .pre .2) (start .pre .3))
+
+target-of-requires : tie.Need-target-of-requires Inv-loop μ-loop
+target-of-requires c κs =
+    let start = c .before .before .before .before .before in
+    (start .pre .0, omega (arith, start .pre .1))
+
+enter-requires : tie.Need-enter-requires Inv-loop μ-loop
+enter-requires c κs = holds-clean (c .before .before .before .loop .inv .1 .states-hold)
+
+enum-known-slot : tie.Need-enum-known-slot Inv-loop μ-loop
+enum-known-slot c = search needs
+
+cast-successors : tie.Need-cast-successors Inv-loop μ-loop
+cast-successors c =
+    let at-enter = c .before .before .before .before .before in
+    let at-target-of = at-enter .before .before in
+    let turn = at-target-of .before in
+    let head = turn .before in
+    omega (arith, going-fits _ _ (head .loop .inv .1) (at-target-of .target-of .ensures) (turn .loop-test .taken) _ _ _ _ (c .before .slot .given .1) (at-enter .enter .ensures))
+
+add-successors : tie.Need-add-successors Inv-loop μ-loop
+add-successors c = search needs
+
+mul-successors : tie.Need-mul-successors Inv-loop μ-loop
+mul-successors c = search needs
+
+slice-write-successors : tie.Need-slice-write-successors Inv-loop μ-loop
+slice-write-successors c =
+    let head = c .before .before .before .before .before .before .before .before .before in
+    omega (arith, holds-length (head .loop .inv .1 .successors-hold))
+
+enum-told : tie.Need-enum-told Inv-loop μ-loop
+enum-told c = search needs
+
+same-length : tie.Need-same-length Inv-loop μ-loop
+same-length c =
+    let at-enter = c .before .before .before .before in
+    let head = at-enter .before .before .before .before in
+    let start = head .before .before .before .before in
+    omega (arith, at-enter .enter .kept .0, holds-length (head .loop .inv .1 .states-hold), holds-length (start .pre .2))
+
+same-length-2 : tie.Need-same-length-2 Inv-loop μ-loop
+same-length-2 c =
+    let head = c .before .before .before .before .before .before .before .before in
+    let start = head .before .before .before .before in
+    omega (arith, holds-length (head .loop .inv .1 .successors-hold), holds-length (start .pre .3))
+
+returns : tie.Need-returns Inv-loop μ-loop
+returns c =
+    let at-enter = c .before .before .before .before in
+    let at-target-of = at-enter .before .before in
+    let turn = at-target-of .before in
+    let head = turn .before in
+    going-over _ _ (head .loop .inv .1) (at-target-of .target-of .ensures) (turn .loop-test .taken) _ _ (c .enum-told .given .1) (at-enter .enter .ensures)
+
+add-j : tie.Need-add-j Inv-loop μ-loop
+add-j c = search needs
+
+loop-less : tie.Need-loop-less Inv-loop μ-loop
+loop-less c = search needs
+
+loop-again : tie.Need-loop-again Inv-loop μ-loop
+loop-again c =
+    let at-enter = c .before .before .before .before .before in
+    let at-target-of = at-enter .before .before in
+    let turn = at-target-of .before in
+    let head = turn .before in
+    (omega arith, going-more _ _ (head .loop .inv .1) (at-target-of .target-of .ensures) (turn .loop-test .taken) _ _ _ _ (c .before .slot .given .1) (at-enter .enter .ensures) (omega arith) _ (omega arith))
+
+same-length-3 : tie.Need-same-length-3 Inv-loop μ-loop
+same-length-3 c =
+    let start = c .before .before .before .before .before in
+    omega (arith, holds-length (c .before .loop .inv .1 .states-hold), holds-length (start .pre .2))
+
+same-length-4 : tie.Need-same-length-4 Inv-loop μ-loop
+same-length-4 c =
+    let start = c .before .before .before .before .before in
+    omega (arith, holds-length (c .before .loop .inv .1 .successors-hold), holds-length (start .pre .3))
+
+returns-2 : tie.Need-returns-2 Inv-loop μ-loop
+returns-2 c = going-all _ _ (c .before .loop .inv .1) (c .loop-test .left) _ (omega arith)
+
+pub list-targets-spec : {M : Type 1} → statement M
+list-targets-spec =
+    tie.close
+    (tie.spec
+    Inv-loop
+    μ-loop
+    loop-holds
+    target-of-requires
+    enter-requires
+    enum-known-slot
+    cast-successors
+    add-successors
+    mul-successors
+    slice-write-successors
+    enum-told
+    same-length
+    same-length-2
+    returns
+    add-j
+    loop-less
+    loop-again
+    same-length-3
+    same-length-4
+    returns-2)

@@ -1,0 +1,4 @@
+-- What the contracts of `model` cite.
+pub mod Counts
+pub mod Tables
+pub mod Answers

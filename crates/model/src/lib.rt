@@ -1,0 +1,240 @@
+// The reachable model of a game, built into lent tables: states by number, starts, successors, and each role's count of moves.
+ghost use mathlib.Core.Path.{_≡_};
+ghost use mathlib.Core.List.{_++_};
+ghost use Prim.Native.Nat.{_+_, _*_, _≤_, _<_};
+ghost use lib.ListN.{length, take, getD};
+ghost use Rattle.tables.specs.Lengths.{stateLimit, moveLimit};
+ghost use Rattle.atl.specs.Bounded.{tabulate};
+ghost use Rattle.sheet.specs.Reading.{sheetIn};
+ghost use Rattle.position.specs.Position.{rulesOf};
+ghost use Rattle.offer.specs.Offer.{roleLimit, Whole, Studied, offerOf, jointsOf, roleOf, targetOf};
+ghost use Rattle.model.specs.Tables.{Holds, Clean, Sized, Fresh, Stage};
+ghost use Rattle.model.specs.Answers.{Entered, Listed, Expanded, Explored, Builds};
+use offer::Offer;
+use offer::initial;
+use offer::joint_count;
+use offer::offer_at;
+use offer::role_count;
+use offer::target_of;
+use sheet::Layout;
+use tables::MOVE_LIMIT;
+use tables::STATE_LIMIT;
+use tables::clear16;
+use tables::clear64;
+use tables::find;
+
+// The most roles that a sheet may have: the counts of a position stand in as many entries.
+pub const ROLE_LIMIT: usize = 4;
+
+// The number of a state, and how many states there are then; or no room for it.
+pub enum Slot {
+    At(usize, usize),
+    Full,
+}
+
+// How many states there are once a state's targets are listed; or too many.
+pub enum Listing {
+    Done(usize),
+    Over,
+}
+
+// Why there is no model, and which state was being expanded.
+pub enum Refusal {
+    NoChoice(usize),
+    ManyMoves(usize),
+    ManyStates(usize),
+}
+
+// One state is expanded: how many states and joint moves there are then.
+pub enum Step {
+    Next(usize, usize),
+    Stop(Refusal),
+}
+
+// How many states and joint moves the model has.
+pub enum Built {
+    Accepted(usize, usize),
+    Refused(Refusal),
+}
+
+// The number of state t, which is entered where it is new.
+fn enter(states: &mut [u64], n: usize, t: u64) -> Slot
+    requires { ⌜ Clean stateLimit (now states) n ⌝ }
+    ensures { λ r. ⌜ Entered stateLimit (take n (now (states .entry))) t r (now (states .exit)) ⌝ }
+{
+    let at = find(states, n, t);
+    if at < n {
+        return Slot::At(at, n);
+    }
+    if n < STATE_LIMIT {
+        states[n] = t;
+        return Slot::At(n, n + 1);
+    }
+    Slot::Full
+}
+
+// The targets of the m joint moves that o offers are numbered, and their numbers stored from `at` on.
+fn list_targets(
+    s: &[u8],
+    y: Layout,
+    o: Offer,
+    m: usize,
+    states: &mut [u64],
+    n: usize,
+    successors: &mut [u16],
+    at: usize,
+) -> Listing
+    requires { ⌜ Whole (now s) y × (m ≡ jointsOf o (y .sizes .roles)) × Clean stateLimit (now states) n × Clean moveLimit (now successors) at × (at + m ≤ moveLimit) ⌝ }
+    ensures { λ r. ⌜ Listed stateLimit moveLimit (take n (now (states .entry))) (take at (now (successors .entry))) (tabulate m (targetOf (sheetIn (now (s .entry)) y) o))
+        r (now (states .exit)) (now (successors .exit)) (at + m) ⌝ }
+{
+    let mut count = n;
+    let mut j: usize = 0;
+    while j < m {
+        let t = target_of(s, y, o, j);
+        let slot = enter(states, count, t);
+        match slot {
+            Slot::At(i, more) => {
+                successors[at + j] = i as u16;
+                count = more;
+            }
+            Slot::Full => {
+                return Listing::Over;
+            }
+        }
+        j += 1;
+    }
+    Listing::Done(count)
+}
+
+// The counts of state k are stored, role by role.
+fn note_counts(o: Offer, y: Layout, k: usize, counts: &mut [u16])
+    requires { ⌜ (k < stateLimit) × Clean (roleLimit * stateLimit) (now counts) (roleLimit * k) ⌝ }
+    ensures { λ _. ⌜ Holds (roleLimit * stateLimit) (now (counts .exit)) (roleLimit * (k + 1)) (take (roleLimit * k) (now (counts .entry)) ++ tabulate roleLimit (roleOf o (y .sizes .roles))) ⌝ }
+{
+    let mut r: usize = 0;
+    while r < ROLE_LIMIT {
+        counts[ROLE_LIMIT * k + r] = role_count(o, y, r);
+        r += 1;
+    }
+}
+
+// State k is expanded: its choices, its joint moves, their targets; its refusals in the order 8, 7, 6.
+fn expand(
+    s: &[u8],
+    y: Layout,
+    masks: &[u64; 64],
+    moves: [u16; 4],
+    k: usize,
+    states: &mut [u64],
+    n: usize,
+    starts: &mut [u16],
+    successors: &mut [u16],
+    at: usize,
+    counts: &mut [u16],
+) -> Step
+    requires { ⌜ Whole (now s) y × Studied (sheetIn (now s) y) (now masks) moves × (k < n)
+        × Stage (rulesOf (sheetIn (now s) y)) stateLimit moveLimit k (now states) n (now starts) (now successors) at (now counts) ⌝ }
+    ensures { λ r. ⌜ Expanded (rulesOf (sheetIn (now (s .entry)) y)) stateLimit moveLimit k r (now (states .exit)) (now (starts .exit)) (now (successors .exit)) (now (counts .exit)) ⌝ }
+{
+    let x = states[k];
+    let o = offer_at(s, y, masks, moves, x);
+    let m = joint_count(o, y);
+    if m == 0 {
+        return Step::Stop(Refusal::NoChoice(k));
+    }
+    if MOVE_LIMIT - at < m {
+        return Step::Stop(Refusal::ManyMoves(k));
+    }
+    let total = at + m;
+    note_counts(o, y, k, counts);
+    starts[k + 1] = total as u16;
+    let listing = list_targets(s, y, o, m, states, n, successors, at);
+    match listing {
+        Listing::Done(more) => Step::Next(more, total),
+        Listing::Over => Step::Stop(Refusal::ManyStates(k)),
+    }
+}
+
+// Every state is expanded, in number order.
+fn explore(
+    s: &[u8],
+    y: Layout,
+    masks: &[u64; 64],
+    moves: [u16; 4],
+    states: &mut [u64],
+    starts: &mut [u16],
+    successors: &mut [u16],
+    counts: &mut [u16],
+) -> Built
+    requires { ⌜ Whole (now s) y × Studied (sheetIn (now s) y) (now masks) moves
+        × Stage (rulesOf (sheetIn (now s) y)) stateLimit moveLimit 0 (now states) 1 (now starts) (now successors) 0 (now counts) ⌝ }
+    ensures { λ r. ⌜ Explored (rulesOf (sheetIn (now (s .entry)) y)) stateLimit moveLimit r (now (states .exit)) (now (starts .exit)) (now (successors .exit)) (now (counts .exit)) ⌝ }
+{
+    let mut n: usize = 1;
+    let mut at: usize = 0;
+    let mut k: usize = 0;
+    while k < n {
+        let step = expand(
+            s,
+            y,
+            masks,
+            moves,
+            k,
+            states,
+            n,
+            starts,
+            successors,
+            at,
+            counts,
+        );
+        match step {
+            Step::Next(more, total) => {
+                n = more;
+                at = total;
+            }
+            Step::Stop(f) => {
+                return Built::Refused(f);
+            }
+        }
+        k += 1;
+    }
+    Built::Accepted(n, at)
+}
+
+// The tables hold the state x and nothing else.
+fn reset(x: u64, states: &mut [u64], starts: &mut [u16], successors: &mut [u16], counts: &mut [u16])
+    requires { ⌜ Sized stateLimit moveLimit (now states) (now starts) (now successors) (now counts) ⌝ }
+    ensures { λ _. ⌜ Fresh stateLimit moveLimit x (now (states .exit)) (now (starts .exit)) (now (successors .exit)) (now (counts .exit)) ⌝ }
+{
+    clear64(states);
+    clear16(starts);
+    clear16(successors);
+    clear16(counts);
+    states[0] = x;
+}
+
+// The reachable model of the sheet's game, whatever the tables hold; on a refusal every entry is zero.
+pub fn build(
+    s: &[u8],
+    y: Layout,
+    masks: &[u64; 64],
+    moves: [u16; 4],
+    states: &mut [u64],
+    starts: &mut [u16],
+    successors: &mut [u16],
+    counts: &mut [u16],
+) -> Built
+    requires { ⌜ Whole (now s) y × Studied (sheetIn (now s) y) (now masks) moves
+        × Sized stateLimit moveLimit (now states) (now starts) (now successors) (now counts) ⌝ }
+    ensures { λ r. ⌜ Builds (rulesOf (sheetIn (now (s .entry)) y)) stateLimit moveLimit r (now (states .exit)) (now (starts .exit)) (now (successors .exit)) (now (counts .exit)) ⌝ }
+{
+    let x = initial(s, y);
+    reset(x, states, starts, successors, counts);
+    let built = explore(s, y, masks, moves, states, starts, successors, counts);
+    if let Built::Refused(f) = built {
+        reset(0, states, starts, successors, counts);
+        return Built::Refused(f);
+    }
+    built
+}

@@ -1,0 +1,2 @@
+-- What the contracts of `offer` cite.
+pub mod Offer

@@ -1,0 +1,45 @@
+-- What a position of a sheet's game offers, computed: how many joint moves, how many for each role, and where each leads.
+use Prim.Native.Nat.{ℕ, _≤_}
+use mathlib.Core.Path.{_≡_}
+use mathlib.Core.Bool.{cond}
+use mathlib.Core.List.{List}
+use lib.Dec.{ltb}
+use lib.ListN.{length, getD, take}
+use Rattle.sheet.specs.Data.{Sheet, rulesEnd}
+use Rattle.sheet.specs.Fields.{Fits}
+use Rattle.sheet.specs.Reading.{sheetIn}
+use Rattle.sheet.specs.declared.Layout.{Layout}
+use Rattle.views.specs.Sheet.{masksOf}
+use Rattle.choices.specs.Moves.{members, total, decode, four}
+use Rattle.position.specs.Position.{still, lookIn, movesOf, offers, leads}
+use Rattle.offer.specs.declared.Offer.{Offer}
+
+-- The most roles that a sheet may have.
+abbrev pub roleLimit : ℕ
+roleLimit = 4
+
+-- The rules of the sheet lie within its bytes, and its fields are in their ranges.
+pub record Whole (s : List ℕ) (y : Layout) : Type 0 where
+  pub within : rulesEnd s (y .top) (y .rules) ≤ length s
+  pub fits : Fits (sheetIn s y)
+
+-- The views of each level and the moves of each role are those of the sheet.
+pub record Studied (d : Sheet) (masks moves : List ℕ) : Type 0 where
+  pub masks-are : masks ≡ masksOf (d .rules)
+  pub moves-are : moves ≡ movesOf (d .rules)
+
+-- What position x offers.
+unfoldable pub offerOf : Sheet → ℕ → Offer
+offerOf d x = record { look = lookIn (d .rules) x still; choices = offers (d .rules) (lookIn (d .rules) x still) (movesOf (d .rules)) }
+
+-- How many joint moves there are.
+unfoldable pub jointsOf : Offer → ℕ → ℕ
+jointsOf o roles = total (take roles (o .choices .sets))
+
+-- How many moves a role has; one for a role that takes no part.
+unfoldable pub roleOf : Offer → ℕ → ℕ → ℕ
+roleOf o roles role = cond (ltb role roles) (length (members (getD (o .choices .sets) role 0))) 1
+
+-- Where joint move j leads.
+unfoldable pub targetOf : Sheet → Offer → ℕ → ℕ
+targetOf d o j = leads (d .rules) (o .look) (o .choices .terminal) (four (decode (take (d .sizes .roles) (o .choices .sets)) j))
