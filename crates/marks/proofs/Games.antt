@@ -24,8 +24,8 @@ use Rattle.marking.proofs.Rounds.{is-game}
 use Rattle.marks.specs.Noted.{noted}
 use Rattle.marks.specs.Model.{Model, inCounts}
 use Rattle.marks.specs.Node.{timed, countsIn}
-use Rattle.marks.specs.declared.Future.{Future}
-use Rattle.marks.specs.declared.Future.the-variants.{Next, Always, Eventually, Until}
+use Rattle.sheet.specs.declared.question.Future.{Future}
+use Rattle.sheet.specs.declared.question.Future.the-variants.{Next, Always, Eventually, Until}
 use Rattle.marks.proofs.Noting.{noted-cong}
 
 class-lt : (counts : List ℕ) (mask i j : ℕ) → j < product (row counts i) → classOf counts mask i j < product (row counts i)

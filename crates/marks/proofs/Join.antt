@@ -39,8 +39,8 @@ use Rattle.marks.specs.Noted.{entry, noted}
 use Rattle.marks.specs.Model.{Model, inCounts}
 use Rattle.marks.specs.Node.{timed, kindOf}
 use Rattle.marks.specs.Held.{Held, Marked}
-use Rattle.marks.specs.declared.Future.{Future}
-use Rattle.marks.specs.declared.Future.the-variants.{Next, Always, Eventually, Until}
+use Rattle.sheet.specs.declared.question.Future.{Future}
+use Rattle.sheet.specs.declared.question.Future.the-variants.{Next, Always, Eventually, Until}
 use Rattle.marks.proofs.Ones.{product-ones, alike-ones, row-is}
 use Rattle.marks.proofs.Sets.{rounds-sets, until-sets, always-sets, next-sets}
 

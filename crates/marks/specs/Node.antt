@@ -7,8 +7,8 @@ use Rattle.atl.specs.Marking.{next, always, eventually, until, swept}
 use Rattle.meaning.specs.Atl.{Kind, NEXT, ALWAYS, EVENTUALLY, UNTIL}
 use Rattle.marking.specs.Table.{side}
 use Rattle.marking.specs.Rule.{bits, permits, rule}
-use Rattle.marks.specs.declared.Future.{Future}
-use Rattle.marks.specs.declared.Future.the-variants.{Next, Always, Eventually, Until}
+use Rattle.sheet.specs.declared.question.Future.{Future}
+use Rattle.sheet.specs.declared.question.Future.the-variants.{Next, Always, Eventually, Until}
 
 -- the marks of a coalition's future in the game G, where E a is the set that node a marks
 unfoldable pub timed : Game → (ℕ → States) → Future → List Bool

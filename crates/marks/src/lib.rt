@@ -20,14 +20,7 @@ use marking::holds_at;
 use marking::plan;
 use marking::within;
 use radix::fill_classes;
-
-// The four kinds of future, with the numbers of their operands.
-pub enum Future {
-    Next(u8),
-    Always(u8),
-    Eventually(u8),
-    Until(u8, u8),
-}
+use sheet::question::Future;
 
 // The entry of position `i` with bit `k`, where `on`.
 pub fn mark(marks: &mut [u64], k: u8, i: usize, on: bool)
@@ -141,7 +134,7 @@ fn mark_next(
     n: usize,
     starts: &[u16],
     successors: &[u16],
-    counts: &[u8],
+    counts: &[u16],
     mask: u8,
     a: u8,
     k: u8,
@@ -172,7 +165,7 @@ fn mark_spread(
     n: usize,
     starts: &[u16],
     successors: &[u16],
-    counts: &[u8],
+    counts: &[u16],
     mask: u8,
     want: bool,
     bound: bool,
@@ -209,7 +202,7 @@ fn fill_choices(
     n: usize,
     starts: &[u16],
     successors: &[u16],
-    counts: &[u8],
+    counts: &[u16],
     mask: u8,
     rounds: &[u16],
     choices: &mut [u16],
@@ -236,7 +229,7 @@ pub fn mark_future(
     n: usize,
     starts: &[u16],
     successors: &[u16],
-    counts: &[u8],
+    counts: &[u16],
     mask: u8,
     future: Future,
     k: u8,
@@ -298,7 +291,7 @@ pub fn mark_last(
     n: usize,
     starts: &[u16],
     successors: &[u16],
-    counts: &[u8],
+    counts: &[u16],
     mask: u8,
     a: u8,
     k: u8,

@@ -1,9 +1,7 @@
 -- One state is expanded: its refusals in their order, or the tables with what it adds; and the end, when none is left.
 use Prim.Native.Nat.{ℕ, suc, _+_, _-_, _*_, _≤_, _<_}
 use mathlib.Core.Path.{_≡_, sym, ap, ap₂, _∙_, subst}
-use mathlib.Core.Logic.{_⊎_, inl, inr}
 use mathlib.Core.List.{List, [], _∷_, _++_, append-nil}
-use native.Mathlib.Nat.{eq-zero-or-pos}
 use native.Mathlib.Numerals.{add-one}
 use native.Mathlib.Omega.{arith}
 use lib.ListN.{length, getD, take, set, length-map}
@@ -11,40 +9,20 @@ use lib.Seq.{take-all, take-suc, ext-getD}
 use Rattle.tables.specs.Pad.{pad}
 use Rattle.atl.specs.Bounded.{tabulate}
 use Rattle.atl.proofs.Bounded.{length-tabulate, getD-tabulate}
-use Rattle.meaning.specs.Lists.{_∈_, all, place}
+use Rattle.meaning.specs.Lists.{all, place}
 use Rattle.meaning.specs.Rules.{Rules, options, moves, after, targets}
 use Rattle.meaning.specs.Model.{found, total, NoChoice, no-choice, many-moves, many-states, IsRefusal}
 use Rattle.meaning.specs.Filling.{add, startsTo, successorsTo}
-use Rattle.meaning.proofs.Lists.{at-∈}
-use Rattle.meaning.proofs.Joints.{joint-legal, joint-some}
 use Rattle.meaning.proofs.Firsts.{all-append}
 use Rattle.meaning.proofs.Explore.{found-same, found-step}
 use Rattle.meaning.proofs.Filling.{total-next, starts-next, successors-next, starts-done, successors-done}
-use Rattle.meaning.proofs.Outcome.{no-choice?, turned, refused, finished}
+use Rattle.meaning.proofs.Outcome.{turned, refused, finished}
 use Rattle.offer.specs.Offer.{roleLimit}
+use Rattle.choices.proofs.Joints.{none-left, left-none}
 use Rattle.model.specs.Counts.{rowOf, counts, countsTo}
 use Rattle.model.specs.Tables.{Holds, numbers, Stage}
 use Rattle.model.specs.Answers.{Accepts}
 use Rattle.model.proofs.Holding.{holds-take, holds-entry, holds-more, holds-counted}
-
--- there is no joint move exactly where some role has none
-some-move : (R : Rules) (s r : ℕ) → 0 < length (moves R s) → r < R .roles → length (options R s r) ≡ 0 → ⊥
-unfolding moves
-some-move R s r h b e = go (options R s r) (joint-legal (R .roles) (options R s) (getD (moves R s) 0 []) (at-∈ (moves R s) 0 [] h) r b) e
-  where
-    go : (l : List ℕ) → getD (getD (moves R s) 0 []) r 0 ∈ l → length l ≡ 0 → ⊥
-    go [] m q = m
-    go (x ∷ l) m q = omega arith
-
-no-move : (R : Rules) (s : ℕ) → length (moves R s) ≡ 0 → ((r : ℕ) → r < R .roles → length (options R s r) ≡ 0 → ⊥) → ⊥
-unfolding moves
-no-move R s e c =
-    let some = joint-some (R .roles) (options R s) (λ r b. pos r b (eq-zero-or-pos (length (options R s r)))) in
-    omega arith
-  where
-    pos : (r : ℕ) → r < R .roles → (length (options R s r) ≡ 0) ⊎ (0 < length (options R s r)) → 0 < length (options R s r)
-    pos r b (inl q) = absurd (c r b q)
-    pos r b (inr q) = q
 
 module _ (R : Rules) (limit joints : ℕ) {k n at : ℕ} {st sa su co : List ℕ} (g : Stage R limit joints k st n sa su at co) (h : k < n) (x m : ℕ) (x-is : x ≡ getD st k 0) (m-is : m ≡ length (moves R x)) where
   here : k < length (found R k)
@@ -65,15 +43,14 @@ module _ (R : Rules) (limit joints : ℕ) {k n at : ℕ} {st sa su co : List ℕ
   total-is : total R (take (suc k) (found R k)) ≡ at + m
   total-is = omega (arith, total-next R k here, at-is, moves-are)
 
+  -- there is no joint move exactly where some role has none
   lacks : m ≡ 0 → NoChoice R k
-  lacks e = go (no-choice? R k)
-    where
-      go : Dec (NoChoice R k) → NoChoice R k
-      go (yes c) = c
-      go (no c) = absurd (no-move R s (sym moves-are ∙ e) (λ r b q. c (r, b, q)))
+  unfolding moves
+  lacks e = none-left (R .roles) (options R s) (sym moves-are ∙ e)
 
   lively : (m ≡ 0 → ⊥) → ¬ NoChoice R k
-  lively e (r, b, q) = some-move R s r (omega (arith, moves-are)) b q
+  unfolding moves
+  lively e (r, b, q) = e (moves-are ∙ left-none (R .roles) (options R s) r b q)
 
   pub stop-8 : m ≡ 0 → IsRefusal R limit joints 8 k
   stop-8 e = refused R limit joints 8 k (g .so-far) here (no-choice (lacks e))

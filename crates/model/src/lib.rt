@@ -27,13 +27,13 @@ use tables::find;
 pub const ROLE_LIMIT: usize = 4;
 
 // The number of a state, and how many states there are then; or no room for it.
-pub enum Slot {
+enum Slot {
     At(usize, usize),
     Full,
 }
 
 // How many states there are once a state's targets are listed; or too many.
-pub enum Listing {
+enum Listing {
     Done(usize),
     Over,
 }
@@ -46,7 +46,7 @@ pub enum Refusal {
 }
 
 // One state is expanded: how many states and joint moves there are then.
-pub enum Step {
+enum Step {
     Next(usize, usize),
     Stop(Refusal),
 }

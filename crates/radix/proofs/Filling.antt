@@ -196,10 +196,10 @@ module _ (counts : List ℕ) (i n1 n2 n3 : ℕ) (h : 0 < product (row counts i))
   w2-pos = pos n2 n3 0 w1-pos
 
 -- and they are small
-pub weights-le : (n1 n2 n3 : ℕ) → n1 ≤ 255 → n2 ≤ 255 → n3 ≤ 255 → (n2 * n3 ≤ 65025) × (n1 * (n2 * n3) ≤ 16581375)
+pub weights-le : (n1 n2 n3 : ℕ) → n1 ≤ 65535 → n2 ≤ 65535 → n3 ≤ 65535 → (n2 * n3 ≤ 65535 * 65535) × (n1 * (n2 * n3) ≤ 65535 * (65535 * 65535))
 weights-le n1 n2 n3 a b c =
-    let w = mul-le-mul {n₁ = n2} {m₁ = n3} {n₂ = 255} {m₂ = 255} b c in
-    (w, mul-le-mul {n₁ = n1} {m₁ = n2 * n3} {n₂ = 255} {m₂ = 65025} a w)
+    let w = mul-le-mul {n₁ = n2} {m₁ = n3} {n₂ = 65535} {m₂ = 65535} b c in
+    (w, mul-le-mul {n₁ = n1} {m₁ = n2 * n3} {n₂ = 65535} {m₂ = 65535 * 65535} a w)
 
 -- what was got so far is below the next weight
 pub level-low : (mask r w j low x : ℕ) → low ≤ j % w → x ≡ cond (has mask r) (j / w) 0 * w + low → x ≤ j

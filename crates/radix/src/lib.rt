@@ -8,12 +8,6 @@ ghost use Rattle.facts.specs.Bits.{has};
 ghost use Rattle.meaning.specs.Radix.{product};
 ghost use Rattle.radix.specs.Classes.{row, classOf, ranged, classed, Starts, Counted};
 
-fn wide8(x: u8) -> usize
-    ensures { λ r. ⌜ r ≡ x ⌝ }
-{
-    x as usize
-}
-
 pub fn wide(x: u16) -> usize
     ensures { λ r. ⌜ r ≡ x ⌝ }
 {
@@ -33,13 +27,13 @@ fn level(mask: u8, r: u8, w: usize, j: usize, low: usize) -> usize
 }
 
 // The class of joint move `j` of position `i`.
-fn class_of(counts: &[u8], i: usize, mask: u8, j: usize) -> usize
+fn class_of(counts: &[u16], i: usize, mask: u8, j: usize) -> usize
     requires { ⌜ (4 * i + 3 < length (now counts)) × (0 < product (row (now counts) i)) ⌝ }
     ensures { λ x. ⌜ x ≡ classOf (now (counts .entry)) mask i j ⌝ }
 {
-    let n1 = wide8(counts[4 * i + 1]);
-    let n2 = wide8(counts[4 * i + 2]);
-    let n3 = wide8(counts[4 * i + 3]);
+    let n1 = wide(counts[4 * i + 1]);
+    let n2 = wide(counts[4 * i + 2]);
+    let n3 = wide(counts[4 * i + 3]);
     let w1 = n2 * n3;
     let w0 = n1 * w1;
     let r0 = j % w0;
@@ -52,7 +46,14 @@ fn class_of(counts: &[u8], i: usize, mask: u8, j: usize) -> usize
 }
 
 // The classes of the joint moves of position `i`, from place `first` on.
-fn fill_position(counts: &[u8], i: usize, mask: u8, first: usize, count: usize, classes: &mut [u16])
+fn fill_position(
+    counts: &[u16],
+    i: usize,
+    mask: u8,
+    first: usize,
+    count: usize,
+    classes: &mut [u16],
+)
     requires { ⌜ (4 * i + 3 < length (now counts)) × (0 < product (row (now counts) i)) × (first + count ≤ length (now classes)) × (count ≤ 65536) ⌝ }
     ensures { λ _. ⌜ now (classes .exit) ≡ ranged (classOf (now (counts .entry)) mask i) first (now (classes .entry)) count ⌝ }
 {
@@ -65,7 +66,7 @@ fn fill_position(counts: &[u8], i: usize, mask: u8, first: usize, count: usize, 
 }
 
 // The classes of all joint moves, position by position.
-pub fn fill_classes(n: usize, starts: &[u16], counts: &[u8], mask: u8, classes: &mut [u16])
+pub fn fill_classes(n: usize, starts: &[u16], counts: &[u16], mask: u8, classes: &mut [u16])
     requires { ⌜ Starts n (now starts) (length (now classes)) × Counted n (now starts) (now counts) ⌝ }
     ensures { λ _. ⌜ now (classes .exit) ≡ classed (now (starts .entry)) (now (counts .entry)) mask (now (classes .entry)) n ⌝ }
 {

@@ -9,6 +9,7 @@ ghost use Rattle.sheet.specs.Fields.{sizesFit, within, coalitions, headL
 ghost use Rattle.sheet.specs.Reading.{numberOf, placeOf, markOf, known, admitted, firstBytes, room, firstNode, rest, record-step, stepAt, start, layoutOf, readSheet};
 
 pub mod question;
+pub mod reader;
 
 // Document 01's limits. The ranges of `SZ` and of a rule's fields stand with their checks below.
 pub const MOST_RULES: usize = 512;
@@ -609,7 +610,7 @@ pub fn read(s: &[u8]) -> Answer
     let mut p = start_spot();
     let mut k: usize = 0;
     while k < MOST_RECORDS {
-        let t = step_at(s, p);
+        let t = reader::next_record(s, p);
         match t {
             Step::Next(q) => {
                 p = q;

@@ -1,7 +1,6 @@
 -- `marks::mark_last`: the choices are those of the counts that came back.
 use mathlib.Core.Path.{refl, ap, _∙_}
 use mathlib.Core.List.{_++_}
-use Prim.Native.Nat.{_+_}
 use lib.ListN.{drop}
 use Rattle.marks.specs.Model.{inCounts}
 use Rattle.marks.proofs.Games.{noted-eventually, counts-eventually, choices-eventually}

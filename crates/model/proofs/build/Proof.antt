@@ -30,7 +30,14 @@ reset-requires-2 c κs =
     let at-reset = at-explore .before .before .before .before .before .before .before .before .before .before .before .before .before in
     let at-initial = at-reset .before .before .before .before .before in
     let start = at-initial .before .before .before .before .before .before in
-    record { states-long = omega (arith, at-explore .explore .kept .1 .1 .1 .1 .0, staged-sizes (first (rulesOf (sheetIn (start .args .s .now) (start .args .y))) (at-reset .reset .ensures) (at-initial .initial .ensures) (omega arith)) .states-long); starts-long = omega (arith, at-explore .explore .kept .1 .1 .1 .1 .1 .0, staged-sizes (first (rulesOf (sheetIn (start .args .s .now) (start .args .y))) (at-reset .reset .ensures) (at-initial .initial .ensures) (omega arith)) .starts-long); successors-long = omega (arith, at-explore .explore .kept .1 .1 .1 .1 .1 .1 .0, staged-sizes (first (rulesOf (sheetIn (start .args .s .now) (start .args .y))) (at-reset .reset .ensures) (at-initial .initial .ensures) (omega arith)) .successors-long); counts-long = omega (arith, at-explore .explore .kept .1 .1 .1 .1 .1 .1 .1 .0, staged-sizes (first (rulesOf (sheetIn (start .args .s .now) (start .args .y))) (at-reset .reset .ensures) (at-initial .initial .ensures) (omega arith)) .counts-long) }
+    let sizes = staged-sizes (first (rulesOf (sheetIn (start .args .s .now) (start .args .y))) (at-reset .reset .ensures) (at-initial .initial .ensures) (omega arith)) in
+    let kept = at-explore .explore .kept in
+    record {
+      states-long = omega (arith, kept .1 .1 .1 .1 .0, sizes .states-long);
+      starts-long = omega (arith, kept .1 .1 .1 .1 .1 .0, sizes .starts-long);
+      successors-long = omega (arith, kept .1 .1 .1 .1 .1 .1 .0, sizes .successors-long);
+      counts-long = omega (arith, kept .1 .1 .1 .1 .1 .1 .1 .0, sizes .counts-long);
+    }
 
 same-length : tie.Need-same-length
 same-length c = search needs

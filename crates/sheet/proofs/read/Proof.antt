@@ -22,8 +22,8 @@ start-spot-requires c κs = search needs
 loop-holds : tie.Need-loop-holds Inv-loop μ-loop
 loop-holds c = (omega arith, ap (λ (p : Spot). run mostRecords (c .before .before .args .s .now) 0 p) (c .start-spot .ensures))
 
-step-at-requires : tie.Need-step-at-requires Inv-loop μ-loop
-step-at-requires c κs = search needs
+next-record-requires : tie.Need-next-record-requires Inv-loop μ-loop
+next-record-requires c κs = search needs
 
 enum-known-t : tie.Need-enum-known-t Inv-loop μ-loop
 enum-known-t c = search needs
@@ -36,7 +36,7 @@ layout-of-requires c κs = search needs
 
 returns : tie.Need-returns Inv-loop μ-loop
 unfolding readSheet
-returns c = ap (λ (y : Layout). Accepted y) (c .layout-of .ensures) ∙ run-done _ _ _ _ (omega arith) (sym (c .before .enum-told .given .1) ∙ c .before .before .before .step-at .ensures) ∙ c .before .before .before .before .before .loop .inv .1
+returns c = ap (λ (y : Layout). Accepted y) (c .layout-of .ensures) ∙ run-done _ _ _ _ (omega arith) (sym (c .before .enum-told .given .1) ∙ c .before .before .before .next-record .ensures) ∙ c .before .before .before .before .before .loop .inv .1
 
 enum-known-t-2 : tie.Need-enum-known-t-2 Inv-loop μ-loop
 enum-known-t-2 c = search needs
@@ -46,7 +46,7 @@ place-of-requires c κs = search needs
 
 returns-2 : tie.Need-returns-2 Inv-loop μ-loop
 unfolding readSheet
-returns-2 c = ap (λ (i : ℕ). Refused (c .before .before .t2 .given .0 .0) i) (c .place-of .ensures) ∙ run-no _ _ _ _ _ (omega arith) (sym (c .before .before .t2 .given .1) ∙ c .before .before .before .before .step-at .ensures) ∙ c .before .before .before .before .before .before .loop .inv .1
+returns-2 c = ap (λ (i : ℕ). Refused (c .before .before .t2 .given .0 .0) i) (c .place-of .ensures) ∙ run-no _ _ _ _ _ (omega arith) (sym (c .before .before .t2 .given .1) ∙ c .before .before .before .before .next-record .ensures) ∙ c .before .before .before .before .before .before .loop .inv .1
 
 add-k : tie.Need-add-k Inv-loop μ-loop
 add-k c = omega arith
@@ -55,7 +55,7 @@ loop-less : tie.Need-loop-less Inv-loop μ-loop
 loop-less c = omega arith
 
 loop-again : tie.Need-loop-again Inv-loop μ-loop
-loop-again c = (omega arith, run-next _ _ _ _ _ _ (omega arith) (sym (c .before .t .given .1) ∙ c .before .before .before .step-at .ensures) ∙ c .before .before .before .before .before .loop .inv .1)
+loop-again c = (omega arith, run-next _ _ _ _ _ _ (omega arith) (sym (c .before .t .given .1) ∙ c .before .before .before .next-record .ensures) ∙ c .before .before .before .before .before .loop .inv .1)
 
 returns-3 : tie.Need-returns-3 Inv-loop μ-loop
 unfolding readSheet
@@ -69,7 +69,7 @@ read-spec =
     μ-loop
     start-spot-requires
     loop-holds
-    step-at-requires
+    next-record-requires
     enum-known-t
     enum-told
     layout-of-requires

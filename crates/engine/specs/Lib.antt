@@ -1,0 +1,4 @@
+-- The engine. MEANING: Promise, what its answer and its tables are for every input. REFERENCE: Solved.
+pub mod Promise
+pub mod Solved
+pub mod Cases

@@ -1,0 +1,3 @@
+-- The definitions that the contracts of `nodes` cite.
+pub mod Asked
+pub mod Goal

@@ -1,0 +1,2 @@
+-- Laws for the code.
+pub mod Laws

@@ -1,0 +1,2 @@
+-- MEANING: what is printed of a sheet.
+pub mod Report
