@@ -10,6 +10,9 @@ pub struct Choices {
     pub terminal: bool,
 }
 
+// A move for each role.
+pub type Moves = [u16; 4];
+
 // How many choices a set has.
 pub fn count(set: u16) -> u32
     ensures { λ r. ⌜ r ≡ length (members set) ⌝ }
@@ -58,7 +61,7 @@ pub fn below(set: u16, m: u16) -> u32
 }
 
 // The move of each role in joint move j, role 0 slowest; 0 for the roles that take no part.
-pub fn joint_move(sets: [u16; 4], roles: usize, j: u32) -> [u16; 4]
+pub fn joint_move(sets: [u16; 4], roles: usize, j: u32) -> Moves
     requires { ⌜ (roles ≤ 4) × (j < total (take roles sets)) ⌝ }
     ensures { λ r. ⌜ r ≡ four (decode (take roles sets) j) ⌝ }
 {

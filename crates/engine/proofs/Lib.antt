@@ -1,4 +1,6 @@
--- The engine's reference meets the promise (solved-meets), and the promise has one answer (answer-unique).
+-- The demands, said of the entry point: begin with Demands. Right: the reference meets the promise (solved-meets), and nothing else does
+-- (answer-unique). Starred: document 01's starred cases. Played serves the code.
+pub mod Demands
 pub mod Right
 pub mod Played
 pub mod Starred

@@ -8,6 +8,7 @@ ghost use Rattle.rules.specs.Rules.{legalSet};
 ghost use Rattle.position.specs.Choices.{choices};
 ghost use Rattle.position.specs.Position.{movesOf, offers, leads, says};
 use choices::Choices;
+use choices::Moves;
 use facts::FactSet;
 use rules::Ask;
 use rules::Look;
@@ -20,7 +21,7 @@ use rules::role_moves;
 use sheet::question::Question;
 
 // The moves of each role, found once a sheet.
-pub fn moves_of(s: &[u8], first: usize, n: usize) -> [u16; 4]
+pub fn moves_of(s: &[u8], first: usize, n: usize) -> Moves
     requires { ⌜ rulesEnd (now s) first n ≤ length (now s) ⌝ }
     ensures { λ r. ⌜ r ≡ movesOf (rulesFrom (now (s .entry)) first n) ⌝ }
 {

@@ -11,7 +11,17 @@ ghost use Rattle.sheet.specs.Reading.{numberOf, placeOf, markOf, known, 
 pub mod question;
 pub mod reader;
 
-// Document 01's limits. The ranges of `SZ` and of a rule's fields stand with their checks below.
+// Document 01's limits: of the sizes, of a GOAL value (which is below VALUES), and of the records.
+pub const MOST_ROLES: u8 = 4;
+
+pub const MOST_FACTS: u8 = 64;
+
+pub const MOST_VIEWS: u8 = 64;
+
+pub const MOST_MOVES: u8 = 16;
+
+pub const VALUES: u8 = 101;
+
 pub const MOST_RULES: usize = 512;
 
 pub const MOST_NODES: u8 = 64;
@@ -173,9 +183,10 @@ pub fn sizes_fit(z: Sizes) -> bool
     ensures { λ r. ⌜ r ≡ sizesFit z ⌝ }
 {
     (1 <= z.roles)
-        & ((z.roles <= 4)
+        & ((z.roles <= MOST_ROLES)
             & ((1 <= z.facts)
-                & ((z.facts <= 64) & ((z.views <= 64) & ((1 <= z.moves) & (z.moves <= 16))))))
+                & ((z.facts <= MOST_FACTS)
+                    & ((z.views <= MOST_VIEWS) & ((1 <= z.moves) & (z.moves <= MOST_MOVES))))))
 }
 
 pub fn is_within(l: Limits, a: u8, b: u8, c: u8) -> bool
@@ -219,7 +230,7 @@ pub fn head_limits(z: Sizes, kind: u8) -> Limits
         },
         5 => Limits {
             a: z.roles,
-            b: 101,
+            b: VALUES,
             c: 1,
         },
         6 => Limits { a: 1, b: 1, c: 1 },
@@ -275,7 +286,7 @@ pub fn node_limits(z: Sizes, j: u8, kind: u8) -> Limits
         },
         5 => Limits {
             a: z.roles,
-            b: 101,
+            b: VALUES,
             c: 1,
         },
         6 => Limits { a: 1, b: 1, c: 1 },
