@@ -1,3 +1,4 @@
+-- `batch::each` meets its contract: the invariant keeps the lengths of the lent tables.
 use borrow.Author.Needs.{needs}
 use mathlib.Core.Path.{_≡_, refl}
 use Prim.Native.Nat.{_-_, _≤_}

@@ -1,3 +1,4 @@
+-- `batch::one` meets its contract: a sheet is no longer than its buffer.
 use native.Mathlib.Omega.{arith}
 use mathlib.Core.Path.{sym}
 use lib.Seq.{length-take-le}

@@ -1,3 +1,4 @@
+-- `engine::play` meets its contract: the builder's answer, and then the question's, are the reference's.
 use native.Mathlib.Omega.{arith}
 use mathlib.Core.Path.{refl}
 use Rattle.engine.specs.Promise.{tables}

@@ -1,3 +1,4 @@
+-- `engine::read_sheet` meets its contract: refusals 1 to 4, or what the sheet says.
 use mathlib.Core.Path.{sym, ap, _∙_}
 use Rattle.engine.specs.Promise.{tables}
 use Rattle.engine.specs.Solved.{read}

@@ -1,3 +1,4 @@
+-- `engine::solve` meets its contract: the reference meets the promise, and the code gives the reference's answer.
 use mathlib.Core.Path.{sym, _∙_}
 use Rattle.engine.specs.Promise.{tables}
 use Rattle.engine.specs.Solved.{lengthsRight}

@@ -1,3 +1,4 @@
+-- `engine::stopped` meets its contract: each case keeps its number and its place.
 use mathlib.Core.Path.{sym, ap}
 use Rattle.model.specs.declared.Refusal.{Refusal as Stop}
 use Rattle.model.specs.Answers.{numberOf, placeOf}

@@ -1,3 +1,4 @@
+-- `engine::study` meets its contract: refusal 5, or the game, as the reference has it.
 use mathlib.Core.Path.{sym, ap, _∙_}
 use Rattle.engine.specs.Promise.{tables}
 use Rattle.engine.specs.Solved.{studied}

@@ -1,3 +1,4 @@
+-- `readings::each` meets its contract: the invariant bounds the stream, and each turn passes at least two bytes.
 use borrow.Author.Needs.{needs}
 use Prim.Native.Nat.{_-_, _≤_}
 use lib.ListN.{length}

@@ -1,3 +1,4 @@
+-- `readings::end_of` meets its contract: two bytes make at most 65,535.
 use native.Mathlib.Omega.{arith}
 use Prim.Native.Nat.{_+_}
 use borrow.Author.Needs.{needs}

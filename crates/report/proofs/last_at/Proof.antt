@@ -1,3 +1,4 @@
+-- `report::last_at` meets its contract: the last node lies inside an accepted sheet.
 use native.Mathlib.Omega.{arith}
 use Rattle.report.proofs.Laws.{some-node, whole, last-is}
 use borrow.Author.Needs.{needs}

@@ -1,3 +1,4 @@
+-- `report::last_in` meets its contract: by what reading gave.
 use mathlib.Core.Path.{sym, ap, _∙_}
 use Rattle.report.specs.Report.{lastIn}
 use borrow.Author.Needs.{needs}

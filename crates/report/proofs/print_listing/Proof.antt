@@ -1,3 +1,4 @@
+-- `report::print_listing` meets its contract: the listing reads the last node off the sheet.
 use mathlib.Core.Path.{subst}
 use Rattle.report.specs.declared.Last.{Last}
 use Rattle.report.specs.Report.{listingOf}

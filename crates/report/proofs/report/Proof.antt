@@ -1,3 +1,4 @@
+-- `report::report` meets its contract: the answer meets the promise, and its text is printed.
 use mathlib.Core.Path.{_∙_, subst}
 use Rattle.report.proofs.Laws.{refusal-is}
 use Rattle.engine.specs.Promise.{tables, Meets}
