@@ -3,6 +3,8 @@ them into a batch stream, compiling and running an engine, and cutting its
 answers apart again."""
 
 import os
+import platform
+import shutil
 import subprocess
 import sys
 import tempfile
@@ -40,15 +42,31 @@ def pack(sheets):
     return b"".join(len(s).to_bytes(2, "little") + s for s in sheets)
 
 
-def compile_engine(directory, sanitize=False, compiler=None):
+def compile_engine(directory, sanitize=False, compiler=None, more=()):
     """Compiles the engine beside this file and says where the program is."""
     compiler = compiler or os.environ.get("CC", "cc")
     name = "engine-sanitized" if sanitize else "engine"
     program = os.path.join(directory, name)
     flags = WARNINGS + (["-g", "-O1", "-fsanitize=address,undefined",
                          "-fno-sanitize-recover=all"] if sanitize else ["-O2"])
-    subprocess.run([compiler, *flags, "-o", program, os.path.join(HERE, "engine.c")], check=True)
+    subprocess.run([compiler, *flags, *more, "-o", program, os.path.join(HERE, "engine.c")], check=True)
     return program
+
+
+CROSS = "x86_64-linux-gnu-gcc"
+
+
+def engine_for_x86_64(directory):
+    """The command that runs the engine as the proved programs run: compiled
+    for x86-64, and under the kit's emulator where the machine is another."""
+    if platform.machine() == "x86_64":
+        return [compile_engine(directory)]
+    if shutil.which(CROSS) is None:
+        sys.exit("there is no %s: install Debian's gcc-x86-64-linux-gnu and libc6-dev-amd64-cross" % CROSS)
+    guide = subprocess.run(["rt", "doc"], stdout=subprocess.PIPE, check=True, text=True).stdout.strip()
+    kit = os.path.dirname(os.path.dirname(guide))
+    emulator = os.path.join(kit, "on", platform.machine(), "toolchain", "bin", "qemu-x86_64")
+    return [emulator, compile_engine(directory, compiler=CROSS, more=["-static"])]
 
 
 def scratch():
