@@ -1,9 +1,8 @@
--- What the loops over the roles, the joint moves and the positions come to.
-use mathlib.Core.Path.{_≡_, refl, sym, ap, ap₂, _∙_, subst}
-use mathlib.Core.Bool.{Bool, true, false, cond}
+-- What the loops over the joint moves and the positions come to.
+use mathlib.Core.Path.{_≡_, refl, sym, ap, ap₂, _∙_}
 use mathlib.Core.List.{List}
-use Prim.Native.Nat.{ℕ, zero, suc, _+_, _-_, _*_, _/_, _%_, _≤_, _<_}
-use native.Mathlib.Nat.{zero-add, zero-mul, mul-one, div-add-mod', mul-le-mul, le-refl, not-suc-le-zero}
+use Prim.Native.Nat.{ℕ, zero, suc, _+_, _-_, _*_, _≤_, _<_}
+use native.Mathlib.Nat.{zero-add, le-refl, not-suc-le-zero}
 use native.Mathlib.Decide.{ℕ-discrete}
 use native.Mathlib.Numerals.{add-one}
 use native.Mathlib.Omega.{arith}
@@ -11,34 +10,8 @@ use lib.ListN.{getD, set, length, length-set}
 use lib.Seq.{getD-set-same, getD-set-other, ext-getD}
 use Rattle.atl.specs.Bounded.{tabulate}
 use Rattle.atl.proofs.Bounded.{length-tabulate, getD-tabulate}
-use Rattle.facts.specs.Bits.{has}
 use Rattle.meaning.specs.Radix.{product}
-use Rattle.radix.specs.Classes.{rep, row, classOf, movesAt, ranged, filled, classed, Starts, Counted}
-use Rattle.radix.proofs.Laws.{rep-le, kept, pos}
-
--- a level fits
-pub level-le : (b : Bool) (w j low : ℕ) → low ≤ j % w → cond b (j / w) 0 * w + low ≤ j
-level-le b w j low h =
-    let p = mul-le-mul (kept b (j / w)) (le-refl w) in
-    omega (arith, div-add-mod' j w)
-
-pub level-on : (mask r w j low : ℕ) → has mask r ≡ true → j / w * w + low ≡ cond (has mask r) (j / w) 0 * w + low
-level-on mask r w j low e = rw e
-
-pub level-off : (mask r w j low : ℕ) → has mask r ≡ false → low ≡ cond (has mask r) (j / w) 0 * w + low
-level-off mask r w j low e = rw (e, zero-mul) (omega arith)
-
--- the levels are the representative
-module _ (counts : List ℕ) (mask i j n1 n2 n3 c3 c2 c1 x : ℕ) (e1 : n1 ≡ getD counts (4 * i + 1) 0) (e2 : n2 ≡ getD counts (4 * i + 2) 0) (e3 : n3 ≡ getD counts (4 * i + 3) 0) where
-  pub levels : c3 ≡ cond (has mask 3) (j % (n1 * (n2 * n3)) % (n2 * n3) % n3 / 1) 0 * 1 + 0
-      → c2 ≡ cond (has mask 2) (j % (n1 * (n2 * n3)) % (n2 * n3) / n3) 0 * n3 + c3
-      → c1 ≡ cond (has mask 1) (j % (n1 * (n2 * n3)) / (n2 * n3)) 0 * (n2 * n3) + c2
-      → x ≡ cond (has mask 0) (j / (n1 * (n2 * n3))) 0 * (n1 * (n2 * n3)) + c1
-      → x ≡ classOf counts mask i j
-  unfolding classOf rep product
-  levels p q r s =
-      let z : n3 ≡ getD counts (4 * i + 3) 0 * 1 = e3 ∙ sym (mul-one _) in
-      s ∙ rw (r, q, p, z, e2, e1)
+use Rattle.radix.specs.Classes.{row, classOf, movesAt, ranged, filled, classed, Starts, Counted}
 
 -- one state's entries
 module _ (f : ℕ → ℕ) (first : ℕ) (l : List ℕ) where
@@ -50,7 +23,7 @@ module _ (f : ℕ → ℕ) (first : ℕ) (l : List ℕ) where
   unfolding ranged
   ranged-more j x m e d = rw (add-one, d) (ap (λ y. set y (first + j) (f j)) e)
 
-  length-ranged : (j : ℕ) → length (ranged f first l j) ≡ length l
+  pub length-ranged : (j : ℕ) → length (ranged f first l j) ≡ length l
   unfolding ranged
   length-ranged zero = refl
   length-ranged (suc j) = length-set (ranged f first l j) (first + j) _ ∙ length-ranged j
@@ -136,14 +109,15 @@ module _ (starts counts : List ℕ) (mask : ℕ) (l : List ℕ) where
   classed-all i n m h g e = let z : i ≡ n = omega arith in e ∙ ap (classed starts counts mask l) z
 
   pub position-asks : (n : ℕ) → Starts n starts (length l) → Counted n starts counts → (i : ℕ) → i < n → (a b : ℕ) (m : List ℕ) → a ≡ getD starts i 0 → b ≡ getD starts (i + 1) 0 → b ≤ 65535
-      → m ≡ classed starts counts mask l i → (4 * i + 3 < length counts) × (0 < product (row counts i)) × (a + (b - a) ≤ length m) × (b - a ≤ 65536)
+      → m ≡ classed starts counts mask l i → (4 * i + 3 < length counts) × (b - a ≡ product (row counts i)) × (0 < b - a) × (b - a ≤ 65535) × (a + (b - a) ≤ length m)
   position-asks n s t i h a b m p q u e =
       let up = s .up i h in
       let inside = t .inside in (
         omega arith,
-        subst (λ (x : ℕ). 0 < x) (t .full i h) (omega arith),
-        omega (arith, s .within i h, classed-length i m e),
+        rw (p, q) (t .full i h),
         omega arith,
+        omega arith,
+        omega (arith, s .within i h, classed-length i m e),
       )
 
   -- what the table holds
@@ -178,29 +152,3 @@ module _ (starts counts : List ℕ) (mask : ℕ) (l : List ℕ) where
         go (no e) rec =
             let a = later i m (omega arith) (omega arith) in
             ranged-before (classOf counts mask m) (getD starts m 0) old _ (getD starts i 0 + j) (omega arith) ∙ rec (omega arith) j k
-
-pub class-le : (counts : List ℕ) (mask i j c : ℕ) → c ≡ classOf counts mask i j → c ≤ j
-unfolding classOf
-class-le counts mask i j c e = rw e (rep-le (row counts i) (has mask) j)
-
--- the weights of the roles are not 0
-module _ (counts : List ℕ) (i n1 n2 n3 : ℕ) (h : 0 < product (row counts i)) (e1 : n1 ≡ getD counts (4 * i + 1) 0) (e2 : n2 ≡ getD counts (4 * i + 2) 0) (e3 : n3 ≡ getD counts (4 * i + 3) 0) where
-  pub w0-pos : 0 < n1 * (n2 * n3)
-  unfolding product
-  w0-pos = rw (e1, e2, e3) (rw mul-one at (pos (getD counts (4 * i) 0) _ 0 h))
-
-  pub w1-pos : 0 < n2 * n3
-  w1-pos = pos n1 (n2 * n3) 0 w0-pos
-
-  pub w2-pos : 0 < n3
-  w2-pos = pos n2 n3 0 w1-pos
-
--- and they are small
-pub weights-le : (n1 n2 n3 : ℕ) → n1 ≤ 65535 → n2 ≤ 65535 → n3 ≤ 65535 → (n2 * n3 ≤ 65535 * 65535) × (n1 * (n2 * n3) ≤ 65535 * (65535 * 65535))
-weights-le n1 n2 n3 a b c =
-    let w = mul-le-mul {n₁ = n2} {m₁ = n3} {n₂ = 65535} {m₂ = 65535} b c in
-    (w, mul-le-mul {n₁ = n1} {m₁ = n2 * n3} {n₂ = 65535} {m₂ = 65535 * 65535} a w)
-
--- what was got so far is below the next weight
-pub level-low : (mask r w j low x : ℕ) → low ≤ j % w → x ≡ cond (has mask r) (j / w) 0 * w + low → x ≤ j
-level-low mask r w j low x h e = rw e (level-le (has mask r) w j low h)

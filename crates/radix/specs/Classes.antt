@@ -29,6 +29,10 @@ unfoldable pub ranged : (ℕ → ℕ) → ℕ → List ℕ → ℕ → List ℕ
 ranged f first l zero = l
 ranged f first l (suc j) = set (ranged f first l j) (first + j) (f j)
 
+-- the first w entries from place `first` on, repeated, each time `add` higher
+unfoldable pub repeated : List ℕ → ℕ → ℕ → ℕ → ℕ → ℕ
+repeated l first w add j = getD l (first + j % w) 0 + j / w * add
+
 -- the first k entries filled by f
 abbrev pub filled : (ℕ → ℕ) → List ℕ → ℕ → List ℕ
 filled f l k = ranged f 0 l k
@@ -48,3 +52,11 @@ pub record Starts (n : ℕ) (starts : List ℕ) (room : ℕ) : Type 0 where
 pub record Counted (n : ℕ) (starts counts : List ℕ) : Type 0 where
   pub inside : 4 * n ≤ length counts
   pub full : (i : ℕ) → i < n → movesAt starts i ≡ product (row counts i)
+
+-- What repeating the first w entries up to entry `end` asks: room, and that each number fits its place.
+pub record Repeats (l : List ℕ) (first w end add : ℕ) : Type 0 where
+  pub some : 0 < w
+  pub up : w ≤ end
+  pub small : end ≤ 65535
+  pub room : first + end ≤ length l
+  pub fits : (j : ℕ) → j < end → repeated l first w add j ≤ 65535

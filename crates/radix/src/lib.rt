@@ -2,11 +2,11 @@
 // Two joint moves of a position have the same class exactly where they give the coalition's roles the same choices.
 ghost use mathlib.Core.Path.{_≡_};
 ghost use mathlib.Core.Bool.{cond};
-ghost use Prim.Native.Nat.{ℕ, _+_, _-_, _*_, _/_, _%_, _<_, _≤_};
-ghost use lib.ListN.{length};
+ghost use Prim.Native.Nat.{_+_, _*_, _<_, _≤_};
+ghost use lib.ListN.{getD, length};
 ghost use Rattle.facts.specs.Bits.{has};
 ghost use Rattle.meaning.specs.Radix.{product};
-ghost use Rattle.radix.specs.Classes.{row, classOf, ranged, classed, Starts, Counted};
+ghost use Rattle.radix.specs.Classes.{row, classOf, ranged, repeated, classed, Starts, Counted, Repeats};
 
 pub fn wide(x: u16) -> usize
     ensures { λ r. ⌜ r ≡ x ⌝ }
@@ -14,38 +14,37 @@ pub fn wide(x: u16) -> usize
     x as usize
 }
 
-// One role's part: its choice where it is of the coalition, by its weight, and what is below.
-fn level(mask: u8, r: u8, w: usize, j: usize, low: usize) -> usize
-    requires { ⌜ (r < 8) × (0 < w) × (low ≤ j % w) ⌝ }
-    ensures { λ x. ⌜ x ≡ cond (has mask r) (j / w) 0 * w + low ⌝ }
+// What each further choice of role `r` adds to the class: its weight, and nothing outside the coalition.
+fn rise(mask: u8, r: u8, w: usize) -> u16
+    requires { ⌜ (r < 8) × (w ≤ 65535) ⌝ }
+    ensures { λ x. ⌜ x ≡ cond (has mask r) w 0 ⌝ }
 {
-    if (mask >> r) % 2 == 1 {
-        j / w * w + low
-    } else {
-        low
+    if (mask >> r) % 2 == 1 { w as u16 } else { 0 }
+}
+
+// Role `r` joins: the first `w` entries from place `first` on are repeated up to entry `end`, each time higher by the role's rise.
+fn grow(mask: u8, r: u8, first: usize, w: usize, end: usize, classes: &mut [u16])
+    requires { ⌜ (r < 8) × Repeats (now classes) first w end (cond (has mask r) w 0) ⌝ }
+    ensures { λ _. ⌜ now (classes .exit) ≡ ranged (repeated (now (classes .entry)) first w (cond (has mask r) w 0)) first (now (classes .entry)) end ⌝ }
+{
+    let add = rise(mask, r, w);
+    let mut e = w;
+    while e < end {
+        let before = classes[first + e - w];
+        classes[first + e] = before + add;
+        e += 1;
     }
 }
 
-// The class of joint move `j` of position `i`.
-fn class_of(counts: &[u16], i: usize, mask: u8, j: usize) -> usize
-    requires { ⌜ (4 * i + 3 < length (now counts)) × (0 < product (row (now counts) i)) ⌝ }
-    ensures { λ x. ⌜ x ≡ classOf (now (counts .entry)) mask i j ⌝ }
+// The weight of the next slower role: the count at place `k` times the weight `w`.
+fn weight(counts: &[u16], k: usize, w: usize) -> usize
+    requires { ⌜ (k < length (now counts)) × (getD (now counts) k 0 * w ≤ 65535) ⌝ }
+    ensures { λ x. ⌜ x ≡ getD (now (counts .entry)) k 0 * w ⌝ }
 {
-    let n1 = wide(counts[4 * i + 1]);
-    let n2 = wide(counts[4 * i + 2]);
-    let n3 = wide(counts[4 * i + 3]);
-    let w1 = n2 * n3;
-    let w0 = n1 * w1;
-    let r0 = j % w0;
-    let r1 = r0 % w1;
-    let r2 = r1 % n3;
-    let c3 = level(mask, 3, 1, r2, 0);
-    let c2 = level(mask, 2, n3, r1, c3);
-    let c1 = level(mask, 1, w1, r0, c2);
-    level(mask, 0, w0, j, c1)
+    wide(counts[k]) * w
 }
 
-// The classes of the joint moves of position `i`, from place `first` on.
+// The classes of the joint moves of position `i`, from place `first` on: grown role by role, the fastest first.
 fn fill_position(
     counts: &[u16],
     i: usize,
@@ -54,15 +53,17 @@ fn fill_position(
     count: usize,
     classes: &mut [u16],
 )
-    requires { ⌜ (4 * i + 3 < length (now counts)) × (0 < product (row (now counts) i)) × (first + count ≤ length (now classes)) × (count ≤ 65536) ⌝ }
+    requires { ⌜ (4 * i + 3 < length (now counts)) × (count ≡ product (row (now counts) i)) × (0 < count) × (count ≤ 65535) × (first + count ≤ length (now classes)) ⌝ }
     ensures { λ _. ⌜ now (classes .exit) ≡ ranged (classOf (now (counts .entry)) mask i) first (now (classes .entry)) count ⌝ }
 {
-    let mut j = 0;
-    while j < count {
-        let c = class_of(counts, i, mask, j);
-        classes[first + j] = c as u16;
-        j += 1;
-    }
+    let w2 = weight(counts, 4 * i + 3, 1);
+    let w1 = weight(counts, 4 * i + 2, w2);
+    let w0 = weight(counts, 4 * i + 1, w1);
+    classes[first] = 0;
+    grow(mask, 3, first, 1, w2, classes);
+    grow(mask, 2, first, w2, w1, classes);
+    grow(mask, 1, first, w1, w0, classes);
+    grow(mask, 0, first, w0, count, classes);
 }
 
 // The classes of all joint moves, position by position.

@@ -1,82 +1,161 @@
--- `radix::fill_position`: the first j entries from `first` on are the classes.
-use borrow.Author.Needs.{needs}
+-- `radix::fill_position`: four steps, the fastest role first, make the classes.
 use native.Mathlib.Omega.{arith}
-use mathlib.Core.Path.{_≡_}
-use Prim.Native.Nat.{_≤_, _-_}
-use Rattle.radix.proofs.Filling.{class-le, ranged-none, ranged-more, ranged-length, ranged-all}
-use Rattle.radix.specs.Classes.{ranged, classOf}
+use mathlib.Core.Path.{refl}
+use Rattle.radix.proofs.Filling.{ranged-length}
+use Rattle.radix.proofs.Growing.{weights, step3, step2, step1, step0}
+use borrow.Author.Needs.{needs}
 use Rattle.radix.proofs.fill_position.Statement.{statement}
 use Rattle.radix.proofs.fill_position.Tie as tie
 
-abbrev Inv-loop : tie.InvT-loop
-Inv-loop counts i mask first count classes₀ j₀ classes j = (j ≤ count) × (classes ≡ ranged (classOf counts mask i) first classes₀ j)
+mul-weight : tie.Need-mul-weight
+mul-weight c = search needs
 
-abbrev μ-loop : tie.MeasureT-loop
-μ-loop counts i mask first count classes₀ j₀ classes j = count - j
+add-weight : tie.Need-add-weight
+add-weight c = search needs
 
-loop-holds : tie.Need-loop-holds Inv-loop μ-loop
-loop-holds c =
+weight-requires : tie.Need-weight-requires
+weight-requires c κs =
     let args = c .before .before .args in
-    (search needs, ranged-none _ (args .first) (args .classes .now))
+    let pre = c .before .before .pre in
+    let w = weights (args .counts .now) (args .i) (args .count) _ _ _ (pre .1) (pre .2) refl refl refl in
+    (search needs, omega (arith, w .up2, w .up1, w .up0))
 
-class-of-requires : tie.Need-class-of-requires Inv-loop μ-loop
-class-of-requires c κs = search needs
+mul-weight-2 : tie.Need-mul-weight-2
+mul-weight-2 c = search needs
 
-cast-classes : tie.Need-cast-classes Inv-loop μ-loop
-cast-classes c =
-    let args = c .before .before .before .before .before .args in
-    let z = class-le (args .counts .now) (args .mask) (args .i) (c .before .before .loop .j) _ (c .class-of .ensures) in omega arith
+add-weight-2 : tie.Need-add-weight-2
+add-weight-2 c = search needs
 
-add-classes : tie.Need-add-classes Inv-loop μ-loop
-add-classes c = search needs
+weight-requires-2 : tie.Need-weight-requires-2
+weight-requires-2 c κs =
+    let args = c .before .before .before .args in
+    let pre = c .before .before .before .pre in
+    let weight = c .weight in
+    let w = weights (args .counts .now) (args .i) (args .count) _ _ _ (pre .1) (pre .2) (weight .ensures) refl refl in
+    (search needs, omega (arith, w .up1, w .up0))
 
-mul-classes : tie.Need-mul-classes Inv-loop μ-loop
+mul-weight-3 : tie.Need-mul-weight-3
+mul-weight-3 c = search needs
+
+add-weight-3 : tie.Need-add-weight-3
+add-weight-3 c = search needs
+
+weight-requires-3 : tie.Need-weight-requires-3
+weight-requires-3 c κs =
+    let args = c .before .before .before .before .args in
+    let pre = c .before .before .before .before .pre in
+    let weight = c .before .weight in
+    let weight2 = c .weight2 in
+    let w = weights (args .counts .now) (args .i) (args .count) _ _ _ (pre .1) (pre .2) (weight .ensures) (weight2 .ensures) refl in
+    (search needs, omega (arith, w .up0))
+
+mul-classes : tie.Need-mul-classes
 mul-classes c = search needs
 
-slice-write-classes : tie.Need-slice-write-classes Inv-loop μ-loop
-slice-write-classes c =
-    let args = c .before .before .before .before .before .args in
-    let loop = c .before .before .loop in
-    let z = ranged-length _ (args .first) (args .classes .now) (loop .j) (loop .classes) (loop .inv .1) in omega arith
+slice-write-classes : tie.Need-slice-write-classes
+slice-write-classes c = search needs
 
-add-j : tie.Need-add-j Inv-loop μ-loop
-add-j c = search needs
+grow-requires : tie.Need-grow-requires
+grow-requires c κs =
+    let args = c .before .before .before .before .before .before .args in
+    let pre = c .before .before .before .before .before .before .pre in
+    let weight = c .before .before .before .weight in
+    let weight2 = c .before .before .weight2 in
+    let weight3 = c .before .weight3 in
+    let w = weights (args .counts .now) (args .i) (args .count) _ _ _ (pre .1) (pre .2) (weight .ensures) (weight2 .ensures) (weight3 .ensures) in
+    (search needs, (step3 (args .counts .now) (args .mask) (args .i) (args .first) (args .count) _ _ _ (args .classes .now) w (pre .3) (pre .4)) .0)
 
-loop-less : tie.Need-loop-less Inv-loop μ-loop
-loop-less c = search needs
+grow-requires-2 : tie.Need-grow-requires-2
+grow-requires-2 c κs =
+    let args = c .before .before .before .before .before .before .before .before .before .before .args in
+    let pre = c .before .before .before .before .before .before .before .before .before .before .pre in
+    let weight = c .before .before .before .before .before .before .before .weight in
+    let weight2 = c .before .before .before .before .before .before .weight2 in
+    let weight3 = c .before .before .before .before .before .weight3 in
+    let w = weights (args .counts .now) (args .i) (args .count) _ _ _ (pre .1) (pre .2) (weight .ensures) (weight2 .ensures) (weight3 .ensures) in
+    let grow = c .before .before .before .grow in (
+      search needs,
+      (step2 (args .counts .now) (args .mask) (args .i) (args .first) (args .count) _ _ _ (args .classes .now) w (pre .3) (pre .4) _
+          (grow .ensures)) .0,
+    )
 
-loop-again : tie.Need-loop-again Inv-loop μ-loop
-loop-again c =
-    let args = c .before .before .before .before .before .args in
-    let loop = c .before .before .loop in
-    (search needs, ranged-more _ (args .first) (args .classes .now) (loop .j) _ (loop .classes) (loop .inv .1) (c .class-of .ensures))
+grow-requires-3 : tie.Need-grow-requires-3
+grow-requires-3 c κs =
+    let args = c .before .before .before .before .before .before .before .before .before .before .before .before .before .before .args in
+    let pre = c .before .before .before .before .before .before .before .before .before .before .before .before .before .before .pre in
+    let weight = c .before .before .before .before .before .before .before .before .before .before .before .weight in
+    let weight2 = c .before .before .before .before .before .before .before .before .before .before .weight2 in
+    let weight3 = c .before .before .before .before .before .before .before .before .before .weight3 in
+    let w = weights (args .counts .now) (args .i) (args .count) _ _ _ (pre .1) (pre .2) (weight .ensures) (weight2 .ensures) (weight3 .ensures) in
+    let grow = c .before .before .before .before .before .before .before .grow in
+    let grow2 = c .before .before .before .grow2 in (
+      search needs,
+      (step1 (args .counts .now) (args .mask) (args .i) (args .first) (args .count) _ _ _ (args .classes .now) w (pre .3) (pre .4) _
+          (grow .ensures) _ (grow2 .ensures)) .0,
+    )
 
-same-length : tie.Need-same-length Inv-loop μ-loop
-same-length c =
-    let args = c .before .before .before .before .args in
-    let loop = c .before .loop in
-    ranged-length _ (args .first) (args .classes .now) (loop .j) (loop .classes) (loop .inv .1)
+grow-requires-4 : tie.Need-grow-requires-4
+grow-requires-4 c κs =
+    let args = c .before .before .before .before .before .before .before .before .before .before .before .before .before .before .before .before
+    .before .before .args in
+    let pre = c .before .before .before .before .before .before .before .before .before .before .before .before .before .before .before .before
+    .before .before .pre in
+    let weight = c .before .before .before .before .before .before .before .before .before .before .before .before .before .before .before .weight in
+    let weight2 = c .before .before .before .before .before .before .before .before .before .before .before .before .before .before .weight2 in
+    let weight3 = c .before .before .before .before .before .before .before .before .before .before .before .before .before .weight3 in
+    let w = weights (args .counts .now) (args .i) (args .count) _ _ _ (pre .1) (pre .2) (weight .ensures) (weight2 .ensures) (weight3 .ensures) in
+    let grow = c .before .before .before .before .before .before .before .before .before .before .before .grow in
+    let grow2 = c .before .before .before .before .before .before .before .grow2 in
+    let grow3 = c .before .before .before .grow3 in (
+      search needs,
+      (step0 (args .counts .now) (args .mask) (args .i) (args .first) (args .count) _ _ _ (args .classes .now) w (pre .3) (pre .4) _
+          (grow .ensures) _ (grow2 .ensures) _ (grow3 .ensures)) .0,
+    )
 
-returns : tie.Need-returns Inv-loop μ-loop
+returns : tie.Need-returns
 returns c =
-    let args = c .before .before .before .before .args in
-    let loop = c .before .loop in
-    ranged-all _ (args .first) (args .classes .now) (loop .j) (args .count) (loop .classes) (loop .inv .0) (search needs) (loop .inv .1)
+    let args = c .before .before .before .before .before .before .before .before .before .before .before .before .before .before .before .before
+    .before .before .before .before .before .args in
+    let pre = c .before .before .before .before .before .before .before .before .before .before .before .before .before .before .before .before
+    .before .before .before .before .before .pre in
+    let weight = c .before .before .before .before .before .before .before .before .before .before .before .before .before .before .before .before
+    .before .before .weight in
+    let weight2 = c .before .before .before .before .before .before .before .before .before .before .before .before .before .before .before .before
+    .before .weight2 in
+    let weight3 = c .before .before .before .before .before .before .before .before .before .before .before .before .before .before .before .before
+    .weight3 in
+    let w = weights (args .counts .now) (args .i) (args .count) _ _ _ (pre .1) (pre .2) (weight .ensures) (weight2 .ensures) (weight3 .ensures) in
+    let grow = c .before .before .before .before .before .before .before .before .before .before .before .before .before .before .grow in
+    let grow2 = c .before .before .before .before .before .before .before .before .before .before .grow2 in
+    let grow3 = c .before .before .before .before .before .before .grow3 in
+    let grow4 = c .before .before .grow4 in
+    (step0 (args .counts .now) (args .mask) (args .i) (args .first) (args .count) _ _ _ (args .classes .now) w (pre .3) (pre .4) _ (grow .ensures) _
+    (grow2 .ensures) _ (grow3 .ensures)) .1 _ (grow4 .ensures)
+
+same-length : tie.Need-same-length
+same-length c =
+    let args = c .before .before .before .before .before .before .before .before .before .before .before .before .before .before .before .before
+    .before .before .before .before .before .args in
+    ranged-length _ (args .first) (args .classes .now) (args .count) _ (returns c)
 
 pub fill-position-spec : {M : Type 1} → statement M
 fill-position-spec =
     tie.close
     (tie.spec
-    Inv-loop
-    μ-loop
-    loop-holds
-    class-of-requires
-    cast-classes
-    add-classes
+    mul-weight
+    add-weight
+    weight-requires
+    mul-weight-2
+    add-weight-2
+    weight-requires-2
+    mul-weight-3
+    add-weight-3
+    weight-requires-3
     mul-classes
     slice-write-classes
-    add-j
-    loop-less
-    loop-again
+    grow-requires
+    grow-requires-2
+    grow-requires-3
+    grow-requires-4
     same-length
     returns)
