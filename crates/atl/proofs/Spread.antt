@@ -166,6 +166,10 @@ module _ (n : ℕ) (p : States → States) (mono : (v w : States) → Holds n v 
   swept-entry zero i u h = getD-tabulate n (λ i. cond (b i) 0 unset) unset i h ∙ ap (λ x. cond x 0 unset) (sym (reach-zero i))
   swept-entry (suc r) i u h = getD-tabulate n _ unset i h ∙ recount-entry r (swept n p b r) u (λ j l. swept-entry r j (omega arith) l) i h
 
+  -- after r sweeps, the states counted by k are those that are reached within k
+  pub swept-leb : (r k i : ℕ) → k ≤ r → r < unset → i < n → counted (swept n p b r) k i ≡ reach k i
+  swept-leb r k i l u h = ap (λ m. leb m k) (swept-entry r i u h) ∙ entry-leb r k i l u h
+
   pub length-swept : (r : ℕ) → length (swept n p b r) ≡ n
   length-swept = swept-length n p b
 
@@ -183,7 +187,7 @@ module _ (n : ℕ) (p : States → States) (mono : (v w : States) → Holds n v 
   -- The table after n sweeps. The states are fewer than the number that stands for none.
   module _ (small : n < unset) where
     pub counts-are : (k i : ℕ) → k ≤ n → i < n → counted (swept n p b n) k i ≡ reach k i
-    counts-are k i l h = ap (λ m. leb m k) (swept-entry n i small h) ∙ entry-leb n k i l small h
+    counts-are k i l h = swept-leb n k i l small h
 
     pub ranks-are : (i : ℕ) → i < n → i ∈ win → getD (swept n p b n) i unset ≡ rank i
     unfolding rank

@@ -3,6 +3,7 @@ use Prim.Native.Nat.{ℕ, zero, suc, _+_, _*_, _/_, _%_, _^_, min}
 use mathlib.Core.Bool.{Bool, true, false}
 use mathlib.Core.List.{List, [], _∷_}
 use lib.Count.{ones}
+use lib.Dec.{eqb}
 use lib.ListN.{length, getD}
 use Rattle.facts.specs.Bits.{has}
 
@@ -20,6 +21,10 @@ membersFrom (suc d) i n = consIf (has n i) i (membersFrom d (i + 1) n)
 unfoldable pub members : ℕ → List ℕ
 unfolding membersFrom
 members n = membersFrom 16 0 n
+
+-- the set has 0 and all up to k: the next number is a multiple of 2 ^ (k + 1)
+unfoldable pub full : ℕ → ℕ → Bool
+full n k = eqb ((n + 1) % 2 ^ (k + 1)) 0
 
 -- how many joint moves the choice sets of some roles make: the product of their counts
 unfoldable pub total : List ℕ → ℕ

@@ -2,7 +2,7 @@
 ghost use mathlib.Core.Path.{_≡_};
 ghost use Prim.Native.Nat.{_≤_, _<_};
 ghost use lib.ListN.{length, take, getD};
-ghost use Rattle.choices.specs.Moves.{members, total, decode, rank, encode, four};
+ghost use Rattle.choices.specs.Moves.{members, full, total, decode, rank, encode, four};
 
 // Each role's choices as a set of sixteen bits. In a terminal state each role has one, number 0, and the game stays.
 pub struct Choices {
@@ -32,8 +32,28 @@ pub fn product(sets: [u16; 4], roles: usize) -> u32
     n
 }
 
-// The k-th member of a set, counted from 0, ascending; 16 where there is none.
+// Does the set have 0 and all up to k?
+pub fn is_full(set: u16, k: u32) -> bool
+    requires { ⌜ k < 16 ⌝ }
+    ensures { λ r. ⌜ r ≡ full set k ⌝ }
+{
+    (set as u32 + 1) % (1u32 << (k + 1)) == 0
+}
+
+// The k-th member of a set, counted from 0, ascending; 16 where there is none. Where nothing below it is left out it is k.
 pub fn nth(set: u16, k: u32) -> u16
+    ensures { λ r. ⌜ r ≡ getD (members set) k 16 ⌝ }
+{
+    if k < 16 {
+        if is_full(set, k) {
+            return k as u16;
+        }
+    }
+    nth_walk(set, k)
+}
+
+// The same by a walk over the set.
+pub fn nth_walk(set: u16, k: u32) -> u16
     ensures { λ r. ⌜ r ≡ getD (members set) k 16 ⌝ }
 {
     let mut left = k;

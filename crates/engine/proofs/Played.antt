@@ -27,6 +27,7 @@ use Rattle.meaning.specs.Promise as promise
 use Rattle.tables.proofs.Pad.{take-pad}
 use Rattle.model.specs.declared.Refusal.{Refusal as Stop}
 use Rattle.offer.specs.Offer.{roleLimit}
+use Rattle.model.specs.Views.{viewsOf}
 use Rattle.model.specs.Tables.{Sized, Zeros}
 use Rattle.model.specs.Answers as model
 use Rattle.model.specs.declared.Built.{Built}
@@ -63,35 +64,35 @@ module _ {a b c d e f a′ b′ c′ d′ e′ f′ : List ℕ} where
   tables-same p q r s t u = λ i. record { states = p i; starts = q i; successors = r i; rounds = s i; choices = t i; marks = u i }
 
 -- the lengths, as the builder asks for them
-pub sized : (states starts successors rounds choices marks counts : List ℕ) → RightLengths (tables states starts successors rounds choices marks) → length counts ≡ roleLimit * stateLimit
-    → Sized stateLimit moveLimit states starts successors counts
-sized states starts successors rounds choices marks counts r h =
-    record { states-long = r .states; starts-long = r .starts; successors-long = r .successors; counts-long = h }
+pub sized : (states starts successors rounds choices marks counts views : List ℕ) → RightLengths (tables states starts successors rounds choices marks) → length counts ≡ roleLimit * stateLimit → length views ≡ stateLimit
+    → Sized stateLimit moveLimit states starts successors counts views
+sized states starts successors rounds choices marks counts views r h k =
+    record { states-long = r .states; starts-long = r .starts; successors-long = r .successors; counts-long = h; views-long = k }
 
 module _ (d : Sheet) (fit : Fits d) where
   -- refused: every table is zero
-  pub play-stops : (f : Stop) (x : Refusal) → x ≡ stop (model.numberOf f) (model.placeOf f) → (states starts successors counts rounds choices marks : List ℕ)
-      → IsRefusal (rulesOf d) stateLimit moveLimit (model.numberOf f) (model.placeOf f) × Zeros stateLimit moveLimit states starts successors counts
+  pub play-stops : (f : Stop) (x : Refusal) → x ≡ stop (model.numberOf f) (model.placeOf f) → (states starts successors counts views rounds choices marks : List ℕ)
+      → IsRefusal (rulesOf d) stateLimit moveLimit (model.numberOf f) (model.placeOf f) × Zeros stateLimit moveLimit states starts successors counts views
       → rounds ≡ pad stateLimit [] → choices ≡ pad stateLimit [] → marks ≡ pad stateLimit []
       → outcome (Refused x) (tables states starts successors rounds choices marks) ≡ played d
-  play-stops f x e states starts successors counts rounds choices marks h p q r =
+  play-stops f x e states starts successors counts views rounds choices marks h p q r =
       ap (λ (y : Refusal). outcome (Refused y) (tables states starts successors rounds choices marks)) e
       ∙ ap (outcome (Refused (stop (model.numberOf f) (model.placeOf f)))) (tables-same (h .1 .states-zero) (h .1 .starts-zero) (h .1 .successors-zero) p q r)
       ∙ played-refused d fit (model.numberOf f) (model.placeOf f) (h .0)
 
   -- the first n states are the positions
-  pub first-states : (n m : ℕ) (states starts successors counts : List ℕ) → (h : Accepts (rulesOf d) stateLimit moveLimit n m states starts successors counts) → take n states ≡ h .positions
-  first-states n m states starts successors counts h =
+  pub first-states : (n m : ℕ) (states starts successors counts views : List ℕ) → (h : Accepts (rulesOf d) (viewsOf d) stateLimit moveLimit n m states starts successors counts views) → take n states ≡ h .positions
+  first-states n m states starts successors counts views h =
       ap (λ (k : ℕ). take k states) (h .count) ∙ ap (take (length (h .positions))) (h .states-are) ∙ take-pad stateLimit (h .positions)
 
   -- accepted: the tables hold the answer
-  pub play-accepts : (n m : ℕ) (v : Bool) (states starts successors counts rounds choices marks : List ℕ)
-      → Accepts (rulesOf d) stateLimit moveLimit n m states starts successors counts
+  pub play-accepts : (n m : ℕ) (v : Bool) (states starts successors counts views rounds choices marks : List ℕ)
+      → Accepts (rulesOf d) (viewsOf d) stateLimit moveLimit n m states starts successors counts views
       → Answered (reference.answer (rulesOf d) (nodesOf d) (take n states)) v marks rounds choices
       → outcome (Accepted n m v) (tables states starts successors rounds choices marks) ≡ played d
-  play-accepts n m v states starts successors counts rounds choices marks h w =
+  play-accepts n m v states starts successors counts views rounds choices marks h w =
       let l = h .positions in
-      let e = first-states n m states starts successors counts h in
+      let e = first-states n m states starts successors counts views h in
       let a : List ℕ → promise.Answer = reference.answer (rulesOf d) (nodesOf d) in
       let moves : m ≡ length (a l .successors) = h .moves ∙ sym (length-map (all (targets (rulesOf d)) l) (λ (t : ℕ). place t l)) in
       ap (λ (k : ℕ). outcome (Accepted k m v) (tables states starts successors rounds choices marks)) (h .count)
@@ -105,18 +106,18 @@ module _ (d : Sheet) (fit : Fits d) where
       ∙ played-accepted d fit l (h .is-model)
 
   -- what the question is asked of
-  pub asked : (s : List ℕ) (y : Layout) → readSheet s ≡ Read y → sheetIn s y ≡ d → (n m : ℕ) (states starts successors counts : List ℕ)
-      → Accepts (rulesOf d) stateLimit moveLimit n m states starts successors counts → Asked s y n states starts successors counts
-  asked s y r same n m states starts successors counts h = record {
+  pub asked : (s : List ℕ) (y : Layout) → readSheet s ≡ Read y → sheetIn s y ≡ d → (n m : ℕ) (states starts successors counts views : List ℕ)
+      → Accepts (rulesOf d) (viewsOf d) stateLimit moveLimit n m states starts successors counts views → Asked s y n states views starts successors counts
+  asked s y r same n m states starts successors counts views h = record {
     sheet = r;
     moves = m;
-    model = subst (λ (g : Sheet). Accepts (rulesOf g) stateLimit moveLimit n m states starts successors counts) (sym same) h;
+    model = subst (λ (g : Sheet). Accepts (rulesOf g) (viewsOf g) stateLimit moveLimit n m states starts successors counts views) (sym same) h;
   }
 
 -- ---- the same of what the builder answered, whatever it is called
-module _ (d : Sheet) (b : Built) (states starts successors counts : List ℕ) (built : Builds (rulesOf d) stateLimit moveLimit b states starts successors counts) where
-  pub was-refused : (f : Stop) → b ≡ builds.Refused f → Builds (rulesOf d) stateLimit moveLimit (builds.Refused f) states starts successors counts
-  was-refused f e = subst (λ (x : Built). Builds (rulesOf d) stateLimit moveLimit x states starts successors counts) e built
+module _ (d : Sheet) (b : Built) (states starts successors counts views : List ℕ) (built : Builds (rulesOf d) (viewsOf d) stateLimit moveLimit b states starts successors counts views) where
+  pub was-refused : (f : Stop) → b ≡ builds.Refused f → Builds (rulesOf d) (viewsOf d) stateLimit moveLimit (builds.Refused f) states starts successors counts views
+  was-refused f e = subst (λ (x : Built). Builds (rulesOf d) (viewsOf d) stateLimit moveLimit x states starts successors counts views) e built
 
-  pub was-accepted : (n m : ℕ) → b ≡ builds.Accepted n m → Accepts (rulesOf d) stateLimit moveLimit n m states starts successors counts
-  was-accepted n m e = subst (λ (x : Built). Builds (rulesOf d) stateLimit moveLimit x states starts successors counts) e built
+  pub was-accepted : (n m : ℕ) → b ≡ builds.Accepted n m → Accepts (rulesOf d) (viewsOf d) stateLimit moveLimit n m states starts successors counts views
+  was-accepted n m e = subst (λ (x : Built). Builds (rulesOf d) (viewsOf d) stateLimit moveLimit x states starts successors counts views) e built

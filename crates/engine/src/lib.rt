@@ -108,17 +108,28 @@ fn play(
     let rules = y.rules;
     let moves = position::moves_of(s, top, rules);
     let mut counts = [0u16; 4096];
+    let mut views = [0u64; 1024];
     clear(rounds, choices, marks);
-    let built = model::build(s, y, masks, moves, states, starts, successors, &mut counts);
+    let built = model::build(
+        s,
+        y,
+        masks,
+        moves,
+        states,
+        starts,
+        successors,
+        &mut counts,
+        &mut views,
+    );
     match built {
         model::Built::Refused(f) => Answer::Refused(stopped(f)),
         model::Built::Accepted(n, m) => {
             let verdict = nodes::answer(
                 s,
                 y,
-                masks,
                 n,
                 states,
+                &views,
                 starts,
                 successors,
                 &counts,

@@ -1,5 +1,7 @@
--- The laws of the marking: flags, one position, one sweep, all sweeps.
+-- The laws of the marking: flags, one position, the rule and its sweeps, one round of the walk, all rounds.
 pub mod Flags
 pub mod Position
-pub mod Sweeping
+pub mod Trying
 pub mod Rounds
+pub mod Far
+pub mod Walk

@@ -1,19 +1,17 @@
--- Sweep after sweep, the table comes to the counts of the marking.
-use mathlib.Core.Path.{_≡_, refl, sym, ap, _∙_}
+-- The tables are a game, its rule grows, and what the table of counts has after r sweeps.
+use mathlib.Core.Path.{_≡_, refl, ap, _∙_}
 use mathlib.Core.Bool.{Bool, true, false, not, cond}
 use mathlib.Core.List.{List}
-use Prim.Native.Nat.{ℕ, suc, _+_, _≤_, _<_}
+use Prim.Native.Nat.{ℕ, _+_, _≤_, _<_}
 use native.Mathlib.Omega.{arith}
-use native.Mathlib.Numerals.{add-one}
 use lib.ListN.{getD, length}
 use borrow.Author.Tests.{eq-eqb, not-true}
 use Rattle.atl.specs.Bounded.{tabulate}
 use Rattle.atl.specs.Game.{Game, IsGame, States}
-use Rattle.atl.specs.Marking.{unset, recount, swept, inPlace}
+use Rattle.atl.specs.Marking.{unset, swept}
 use Rattle.atl.proofs.Bounded.{and-left, and-right, and-both, unless-true, clash}
 use Rattle.atl.proofs.Play as play
 use Rattle.atl.proofs.Spread as spread
-use Rattle.atl.proofs.InPlace.{in-place}
 use Rattle.marking.specs.Table.{inTables, Tables}
 use Rattle.marking.proofs.Position.{getD-default}
 use Rattle.marking.specs.Rule.{rule, Counts}
@@ -54,25 +52,8 @@ module _ {n : ℕ} {starts successors classes : List ℕ} (s : Tables n starts s
     pub count-length : length m ≡ n
     count-length = ap length d ∙ spread.length-swept n q mono b r
 
-    pub count-counts : r < n → Counts r m
+    pub count-counts : r ≤ n → Counts r m
     count-counts h i k o =
         let z = getD-default m i 0 unset k in
         let y : getD m i unset ≡ getD (swept n q b r) i unset = ap (λ (x : List ℕ). getD x i unset) d in
         z ∙ y ∙ spread.swept-counts n q mono b r i (omega arith) (omega (arith, count-length)) (omega arith)
-
-    more : r < n → (m′ : List ℕ) → m′ ≡ inPlace q r m n → m′ ≡ swept n q b (suc r)
-    unfolding swept
-    more h m′ f =
-        f ∙ in-place n q (spread.p-cong n q mono b) r (omega arith) m count-length ∙ ap (λ (x : List ℕ). tabulate n (recount q r x)) d
-
-    pub count-more : r < n → (m′ : List ℕ) → m′ ≡ inPlace q r m n → m′ ≡ swept n q b (r + 1)
-    count-more h m′ f = rw add-one (more h m′ f)
-
-    -- a sweep that changes nothing is the last
-    pub count-still : r < n → (m′ : List ℕ) → m′ ≡ inPlace q r m n → m′ ≡ m → m′ ≡ swept n q b n
-    count-still h m′ f e =
-        let t : swept n q b (suc r) ≡ swept n q b r = sym (more h m′ f) ∙ e ∙ d in
-        e ∙ d ∙ sym (spread.enough n q mono b r n (omega arith) (omega arith) small t)
-
-    pub count-all : r ≤ n → (x : ℕ) → x ≡ r → n ≤ x → m ≡ swept n q b n
-    count-all h x e k = let z : r ≡ n = omega arith in d ∙ ap (swept n q b) z

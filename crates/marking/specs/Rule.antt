@@ -1,4 +1,4 @@
--- What a sweep asks of a position.
+-- What a round asks of a position.
 use mathlib.Core.Path.{_≡_}
 use mathlib.Core.Bool.{Bool, true, false, _&&_}
 use mathlib.Core.List.{List}

@@ -1,15 +1,18 @@
 // The marking of a game in tables: what a coalition can secure in one position, round counts, choices.
 ghost use mathlib.Core.Path.{_≡_};
-ghost use mathlib.Core.Bool.{false, _||_, cond};
-ghost use Prim.Native.Nat.{ℕ, suc, _+_, _-_, _<_, _≤_};
-ghost use lib.ListN.{getD, length, set};
+ghost use mathlib.Core.Bool.{cond};
+ghost use Prim.Native.Nat.{ℕ, _+_, _-_, _<_, _≤_};
+ghost use lib.ListN.{getD, length};
 ghost use Rattle.facts.specs.Bits.{has};
 ghost use Rattle.atl.specs.Bounded.{lowest, tabulate};
-ghost use Rattle.atl.specs.Marking.{secures, force, counted, unset, recount, inPlace, swept, plan as planOf, choice as choiceOf};
+ghost use Rattle.atl.specs.Marking.{secures, force, counted, unset, swept, plan as planOf, choice as choiceOf};
 ghost use Rattle.radix.specs.Classes.{movesAt};
 ghost use Rattle.marking.specs.Table.{inTables, side, Tables, Block};
 ghost use Rattle.marking.specs.Flags.{cleared, strike, strikes, firstClean, firstOf};
-ghost use Rattle.marking.specs.Rule.{bits, permits, rule, Counts};
+ghost use Rattle.incoming.specs.Owners.{Incoming};
+ghost use Rattle.incoming.specs.Build.{Zeros};
+ghost use Rattle.marking.specs.Rule.{bits, permits, rule};
+ghost use Rattle.marking.specs.Walk.{Stepped, Queued, Onward, Tried, Walked, Lined};
 use facts::FactSet;
 use radix::wide;
 
@@ -153,12 +156,6 @@ fn lowest_at(
     }
 }
 
-fn either(a: bool, b: bool) -> bool
-    ensures { λ r. ⌜ r ≡ (a || b) ⌝ }
-{
-    if a { true } else { b }
-}
-
 // Whether node `k` marks position `i`.
 pub fn bit(marks: &[u64], k: u8, i: usize) -> bool
     requires { ⌜ i < length (now marks) ⌝ }
@@ -175,7 +172,7 @@ fn permitted(bound: bool, marks: &[u64], k: u8, i: usize) -> bool
     if bound { bit(marks, k, i) } else { true }
 }
 
-// What a position has before the first sweep: 0 on the side that is wanted, and 65,535 for none.
+// What a position has before the first round: 0 on the side that is wanted, and 65,535 for none.
 fn fresh(marks: &[u64], k: u8, want: bool, i: usize) -> u16
     requires { ⌜ i < length (now marks) ⌝ }
     ensures { λ x. ⌜ x ≡ cond (side want (bits (now (marks .entry)) k) i) 0 unset ⌝ }
@@ -187,7 +184,7 @@ fn fresh(marks: &[u64], k: u8, want: bool, i: usize) -> u16
     }
 }
 
-// The table before the first sweep.
+// The table before the first round.
 pub fn begin(n: usize, marks: &[u64], k: u8, want: bool, rounds: &mut [u16])
     requires { ⌜ (length (now rounds) ≡ n) × (n ≤ length (now marks)) ⌝ }
     ensures { λ _. ⌜ now (rounds .exit) ≡ tabulate n (λ i. cond (side want (bits (now (marks .entry)) k) i) 0 unset) ⌝ }
@@ -200,7 +197,7 @@ pub fn begin(n: usize, marks: &[u64], k: u8, want: bool, rounds: &mut [u16])
     }
 }
 
-// One position of sweep `r + 1`, and whether it took a count.
+// One position of round `r + 1`, and whether it took a count.
 fn step(
     n: usize,
     starts: &[u16],
@@ -216,7 +213,7 @@ fn step(
     flags: &mut [u8],
 ) -> bool
     requires { ⌜ Tables n (now starts) (now successors) (now classes) × (length (now rounds) ≡ n) × (n ≤ length (now marks)) × (length (now successors) ≤ length (now flags)) × (i < n) × (r < unset) × (r < getD (now rounds) i 0 → getD (now rounds) i 0 ≡ unset) ⌝ }
-    ensures { λ x. ⌜ (now (rounds .exit) ≡ set (now (rounds .entry)) i (recount (rule (inTables n (now (starts .entry)) (now (successors .entry)) (now (classes .entry))) want (permits bound (now (marks .entry)) k)) r (now (rounds .entry)) i)) × (x ≡ false → now (rounds .exit) ≡ now (rounds .entry)) ⌝ }
+    ensures { λ x. ⌜ Stepped (rule (inTables n (now (starts .entry)) (now (successors .entry)) (now (classes .entry))) want (permits bound (now (marks .entry)) k)) r i (now (rounds .entry)) (now (rounds .exit)) x ⌝ }
 {
     if rounds[i] <= r {
         return false;
@@ -231,8 +228,8 @@ fn step(
     true
 }
 
-// Sweep `r + 1`, in place, and whether it changed anything.
-fn sweep(
+// Position `i` is tried, once a round: where it takes count `r + 1` it stands next in the queue. The answer is how many stand there now.
+fn attempt(
     n: usize,
     starts: &[u16],
     successors: &[u16],
@@ -240,18 +237,80 @@ fn sweep(
     marks: &[u64],
     bound: bool,
     k: u8,
-    rounds: &mut [u16],
     r: u16,
     want: bool,
+    i: usize,
+    more: usize,
+    rounds: &mut [u16],
+    queue: &mut [u16],
+    tried: &mut [u16],
     flags: &mut [u8],
-) -> bool
-    requires { ⌜ Tables n (now starts) (now successors) (now classes) × (length (now rounds) ≡ n) × (n ≤ length (now marks)) × (length (now successors) ≤ length (now flags)) × (r < unset) × Counts r (now rounds) ⌝ }
-    ensures { λ x. ⌜ (now (rounds .exit) ≡ inPlace (rule (inTables n (now (starts .entry)) (now (successors .entry)) (now (classes .entry))) want (permits bound (now (marks .entry)) k)) r (now (rounds .entry)) n) × (x ≡ false → now (rounds .exit) ≡ now (rounds .entry)) ⌝ }
+) -> usize
+    requires { ⌜ Tables n (now starts) (now successors) (now classes)
+        × (n ≤ length (now marks)) × (length (now successors) ≤ length (now flags)) × (n ≤ 1024) × (i < n) × (r ≤ n) × Queued n r more (now rounds) (now queue) (now tried) ⌝ }
+    ensures { λ x. ⌜ Queued n r x (now (rounds .exit)) (now (queue .exit)) (now (tried .exit))
+        × Onward (rule (inTables n (now (starts .entry)) (now (successors .entry)) (now (classes .entry))) want (permits bound (now (marks .entry)) k)) n r more x
+        (now (rounds .entry)) (now (queue .entry)) (now (tried .entry)) (now (rounds .exit)) (now (queue .exit)) (now (tried .exit))
+        × (getD (now (tried .exit)) i 0 ≡ r + 1) ⌝ }
 {
-    let mut changed = false;
-    let mut i = 0;
-    while i < n {
-        let one = step(
+    if tried[i] == r + 1 {
+        return more;
+    }
+    tried[i] = r + 1;
+    let took = step(
+        n,
+        starts,
+        successors,
+        classes,
+        marks,
+        bound,
+        k,
+        rounds,
+        r,
+        want,
+        i,
+        flags,
+    );
+    if took {
+        queue[more] = i as u16;
+        return more + 1;
+    }
+    more
+}
+
+// Every position that leads to position `t` is tried.
+fn walk_into(
+    n: usize,
+    starts: &[u16],
+    successors: &[u16],
+    classes: &[u16],
+    froms: &[u16],
+    owners: &[u16],
+    marks: &[u64],
+    bound: bool,
+    k: u8,
+    r: u16,
+    want: bool,
+    t: usize,
+    more: usize,
+    rounds: &mut [u16],
+    queue: &mut [u16],
+    tried: &mut [u16],
+    flags: &mut [u8],
+) -> usize
+    requires { ⌜ Tables n (now starts) (now successors) (now classes) × Incoming n (now starts) (now successors) (now froms) (now owners)
+        × (n ≤ length (now marks)) × (length (now successors) ≤ length (now flags)) × (n ≤ 1024) × (t < n) × (r ≤ n) × Queued n r more (now rounds) (now queue) (now tried) ⌝ }
+    ensures { λ x. ⌜ Queued n r x (now (rounds .exit)) (now (queue .exit)) (now (tried .exit))
+        × Onward (rule (inTables n (now (starts .entry)) (now (successors .entry)) (now (classes .entry))) want (permits bound (now (marks .entry)) k)) n r more x
+        (now (rounds .entry)) (now (queue .entry)) (now (tried .entry)) (now (rounds .exit)) (now (queue .exit)) (now (tried .exit))
+        × Tried r (now (owners .entry)) (getD (now (froms .entry)) t 0) (getD (now (froms .entry)) (t + 1) 0) (now (tried .exit)) ⌝ }
+{
+    let last = wide(froms[t + 1]);
+    let mut e = wide(froms[t]);
+    let mut x = more;
+    while e < last {
+        let i = wide(owners[e]);
+        x = attempt(
             n,
             starts,
             successors,
@@ -259,25 +318,165 @@ fn sweep(
             marks,
             bound,
             k,
-            rounds,
             r,
             want,
             i,
+            x,
+            rounds,
+            queue,
+            tried,
             flags,
         );
-        changed = either(changed, one);
+        e += 1;
+    }
+    x
+}
+
+// Round `r + 1`: every position is tried that leads to one of those that stand from `lo` to `end` in the queue.
+fn walk_round(
+    n: usize,
+    starts: &[u16],
+    successors: &[u16],
+    classes: &[u16],
+    froms: &[u16],
+    owners: &[u16],
+    marks: &[u64],
+    bound: bool,
+    k: u8,
+    r: u16,
+    want: bool,
+    lo: usize,
+    end: usize,
+    rounds: &mut [u16],
+    queue: &mut [u16],
+    tried: &mut [u16],
+    flags: &mut [u8],
+) -> usize
+    requires { ⌜ Tables n (now starts) (now successors) (now classes) × Incoming n (now starts) (now successors) (now froms) (now owners)
+        × (n ≤ length (now marks)) × (length (now successors) ≤ length (now flags)) × (n ≤ 1024) × (lo ≤ end) × (r ≤ n) × Queued n r end (now rounds) (now queue) (now tried) ⌝ }
+    ensures { λ x. ⌜ Queued n r x (now (rounds .exit)) (now (queue .exit)) (now (tried .exit))
+        × Onward (rule (inTables n (now (starts .entry)) (now (successors .entry)) (now (classes .entry))) want (permits bound (now (marks .entry)) k)) n r end x
+        (now (rounds .entry)) (now (queue .entry)) (now (tried .entry)) (now (rounds .exit)) (now (queue .exit)) (now (tried .exit))
+        × Walked r (now (froms .entry)) (now (owners .entry)) (now (queue .entry)) lo end (now (tried .exit)) ⌝ }
+{
+    let mut q = lo;
+    let mut more = end;
+    while q < end {
+        let t = wide(queue[q]);
+        more = walk_into(
+            n,
+            starts,
+            successors,
+            classes,
+            froms,
+            owners,
+            marks,
+            bound,
+            k,
+            r,
+            want,
+            t,
+            more,
+            rounds,
+            queue,
+            tried,
+            flags,
+        );
+        q += 1;
+    }
+    more
+}
+
+// Position `i` stands next in the queue, where its count is 0. The answer is how many stand there now.
+fn line(rounds: &[u16], i: usize, count: usize, queue: &mut [u16]) -> usize
+    requires { ⌜ Lined i count (now rounds) (now queue) × (i < length (now rounds)) × (i < length (now queue)) × (i < 1024) ⌝ }
+    ensures { λ x. ⌜ Lined (i + 1) x (now (rounds .entry)) (now (queue .exit)) ⌝ }
+{
+    if rounds[i] == 0 {
+        queue[count] = i as u16;
+        return count + 1;
+    }
+    count
+}
+
+// The positions of count 0, in number order, and how many they are.
+fn enqueue(n: usize, rounds: &[u16], queue: &mut [u16]) -> usize
+    requires { ⌜ (length (now rounds) ≡ n) × (n ≤ length (now queue)) × (n ≤ 1024) ⌝ }
+    ensures { λ x. ⌜ Lined n x (now (rounds .entry)) (now (queue .exit)) ⌝ }
+{
+    let mut count = 0;
+    let mut i = 0;
+    while i < n {
+        count = line(rounds, i, count, queue);
         i += 1;
     }
-    changed
+    count
+}
+
+// Round after round, from the positions of count 0, which stand in the queue: those that took the count of a round are walked from in the next.
+// The walk ends where no position took one.
+fn walk_rounds(
+    n: usize,
+    starts: &[u16],
+    successors: &[u16],
+    classes: &[u16],
+    froms: &[u16],
+    owners: &[u16],
+    marks: &[u64],
+    want: bool,
+    bound: bool,
+    ka: u8,
+    kb: u8,
+    count: usize,
+    rounds: &mut [u16],
+    queue: &mut [u16],
+    tried: &mut [u16],
+    flags: &mut [u8],
+)
+    requires { ⌜ Tables n (now starts) (now successors) (now classes) × Incoming n (now starts) (now successors) (now froms) (now owners)
+        × (n ≤ length (now marks)) × (length (now successors) ≤ length (now flags)) × (n ≤ 1024) × (n ≤ length (now queue)) × (n ≤ length (now tried))
+        × Zeros (now tried) × Lined n count (now rounds) (now queue) × (now rounds ≡ tabulate n (λ i. cond (side want (bits (now marks) kb) i) 0 unset)) ⌝ }
+    ensures { λ _. ⌜ now (rounds .exit) ≡ swept n (rule (inTables n (now (starts .entry)) (now (successors .entry)) (now (classes .entry))) want (permits bound (now (marks .entry)) ka)) (side want (bits (now (marks .entry)) kb)) n ⌝ }
+{
+    let mut r: u16 = 0;
+    let mut lo = 0;
+    let mut end = count;
+    while lo < end {
+        let more = walk_round(
+            n,
+            starts,
+            successors,
+            classes,
+            froms,
+            owners,
+            marks,
+            bound,
+            ka,
+            r,
+            want,
+            lo,
+            end,
+            rounds,
+            queue,
+            tried,
+            flags,
+        );
+        lo = end;
+        end = more;
+        r += 1;
+    }
 }
 
 // The round counts: of UNTIL, from the positions that node `kb` marks through those of node `ka`; of EVENTUALLY, where not `bound`; and of
-// the loss of ALWAYS, where also not `want`, from the positions that node `kb` does not mark. A sweep that changes nothing is the last.
+// the loss of ALWAYS, where also not `want`, from the positions that node `kb` does not mark. `froms` and `owners` say who leads where: a
+// position can take a count only where it leads to one that took the count before.
 pub fn count_rounds(
     n: usize,
     starts: &[u16],
     successors: &[u16],
     classes: &[u16],
+    froms: &[u16],
+    owners: &[u16],
     marks: &[u64],
     want: bool,
     bound: bool,
@@ -286,29 +485,32 @@ pub fn count_rounds(
     rounds: &mut [u16],
     flags: &mut [u8],
 )
-    requires { ⌜ Tables n (now starts) (now successors) (now classes) × (length (now rounds) ≡ n) × (n ≤ length (now marks)) × (length (now successors) ≤ length (now flags)) × (n < unset) ⌝ }
+    requires { ⌜ Tables n (now starts) (now successors) (now classes) × Incoming n (now starts) (now successors) (now froms) (now owners)
+        × (length (now rounds) ≡ n) × (n ≤ length (now marks)) × (length (now successors) ≤ length (now flags)) × (n ≤ 1024) ⌝ }
     ensures { λ _. ⌜ now (rounds .exit) ≡ swept n (rule (inTables n (now (starts .entry)) (now (successors .entry)) (now (classes .entry))) want (permits bound (now (marks .entry)) ka)) (side want (bits (now (marks .entry)) kb)) n ⌝ }
 {
+    let mut queue = [0u16; 1024];
+    let mut tried = [0u16; 1024];
     begin(n, marks, kb, want, rounds);
-    let mut r: u16 = 0;
-    while wide(r) < n {
-        if !sweep(
-            n,
-            starts,
-            successors,
-            classes,
-            marks,
-            bound,
-            ka,
-            rounds,
-            r,
-            want,
-            flags,
-        ) {
-            return;
-        }
-        r += 1;
-    }
+    let count = enqueue(n, rounds, &mut queue);
+    walk_rounds(
+        n,
+        starts,
+        successors,
+        classes,
+        froms,
+        owners,
+        marks,
+        want,
+        bound,
+        ka,
+        kb,
+        count,
+        rounds,
+        &mut queue,
+        &mut tried,
+        flags,
+    );
 }
 
 // The choice of position `i`: 65,535 at count 0 and where there is no count.

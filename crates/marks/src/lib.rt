@@ -7,6 +7,7 @@ ghost use lib.ListN.{getD, length, set, take, drop};
 ghost use Rattle.facts.specs.Pack.{addIf};
 ghost use Rattle.atl.specs.Game.{everything};
 ghost use Rattle.atl.specs.Marking.{counted, unset, force, marked, rounds as roundsOf, plan as planOf, eventually as eventuallyOf};
+ghost use Rattle.incoming.specs.Owners.{Incoming};
 ghost use Rattle.marking.specs.Table.{inTables, side, Tables};
 ghost use Rattle.marking.specs.Rule.{bits};
 ghost use Rattle.marks.specs.Noted.{noted};
@@ -166,6 +167,8 @@ fn mark_spread(
     starts: &[u16],
     successors: &[u16],
     counts: &[u16],
+    froms: &[u16],
+    owners: &[u16],
     mask: u8,
     want: bool,
     bound: bool,
@@ -175,7 +178,8 @@ fn mark_spread(
     marks: &mut [u64],
     rounds: &mut [u16],
 )
-    requires { ⌜ Model positionsLimit jointsLimit n (now starts) (now successors) (now counts) × (n ≤ length (now marks)) × (n ≤ length (now rounds)) × (k < 64) ⌝ }
+    requires { ⌜ Model positionsLimit jointsLimit n (now starts) (now successors) (now counts) × (n ≤ length (now marks)) × (n ≤ length (now rounds)) × (k < 64)
+        × Incoming n (now starts) (now successors) (now froms) (now owners) ⌝ }
     ensures { λ _. ⌜ (now (rounds .exit) ≡ countsIn (inCounts n (now (starts .entry)) (now (successors .entry)) (now (counts .entry)) mask) want bound (now (marks .entry)) a b ++ drop n (now (rounds .entry))) × (now (marks .exit) ≡ noted n k (side want (counted (countsIn (inCounts n (now (starts .entry)) (now (successors .entry)) (now (counts .entry)) mask) want bound (now (marks .entry)) a b) n)) (now (marks .entry))) ⌝ }
 {
     let mut classes = [0u16; 8192];
@@ -186,6 +190,8 @@ fn mark_spread(
         starts,
         successors,
         &classes,
+        froms,
+        owners,
         marks,
         want,
         bound,
@@ -230,12 +236,15 @@ pub fn mark_future(
     starts: &[u16],
     successors: &[u16],
     counts: &[u16],
+    froms: &[u16],
+    owners: &[u16],
     mask: u8,
     future: Future,
     k: u8,
     marks: &mut [u64],
 )
-    requires { ⌜ Model positionsLimit jointsLimit n (now starts) (now successors) (now counts) × (n ≤ length (now marks)) × (k < 64) ⌝ }
+    requires { ⌜ Model positionsLimit jointsLimit n (now starts) (now successors) (now counts) × (n ≤ length (now marks)) × (k < 64)
+        × Incoming n (now starts) (now successors) (now froms) (now owners) ⌝ }
     ensures { λ _. ⌜ now (marks .exit) ≡ noted n k (marked (timed (inCounts n (now (starts .entry)) (now (successors .entry)) (now (counts .entry)) mask) (bits (now (marks .entry))) future)) (now (marks .entry)) ⌝ }
 {
     let mut table = [0u16; 1024];
@@ -246,6 +255,8 @@ pub fn mark_future(
             starts,
             successors,
             counts,
+            froms,
+            owners,
             mask,
             false,
             false,
@@ -260,6 +271,8 @@ pub fn mark_future(
             starts,
             successors,
             counts,
+            froms,
+            owners,
             mask,
             true,
             false,
@@ -274,6 +287,8 @@ pub fn mark_future(
             starts,
             successors,
             counts,
+            froms,
+            owners,
             mask,
             true,
             true,
@@ -292,6 +307,8 @@ pub fn mark_last(
     starts: &[u16],
     successors: &[u16],
     counts: &[u16],
+    froms: &[u16],
+    owners: &[u16],
     mask: u8,
     a: u8,
     k: u8,
@@ -299,7 +316,8 @@ pub fn mark_last(
     rounds: &mut [u16],
     choices: &mut [u16],
 )
-    requires { ⌜ Model positionsLimit jointsLimit n (now starts) (now successors) (now counts) × (n ≤ length (now marks)) × (n ≤ length (now rounds)) × (n ≤ length (now choices)) × (k < 64) ⌝ }
+    requires { ⌜ Model positionsLimit jointsLimit n (now starts) (now successors) (now counts) × (n ≤ length (now marks)) × (n ≤ length (now rounds)) × (n ≤ length (now choices)) × (k < 64)
+        × Incoming n (now starts) (now successors) (now froms) (now owners) ⌝ }
     ensures { λ _. ⌜ (now (rounds .exit) ≡ roundsOf (inCounts n (now (starts .entry)) (now (successors .entry)) (now (counts .entry)) mask) everything (bits (now (marks .entry)) a) ++ drop n (now (rounds .entry))) × (now (choices .exit) ≡ planOf (inCounts n (now (starts .entry)) (now (successors .entry)) (now (counts .entry)) mask) (roundsOf (inCounts n (now (starts .entry)) (now (successors .entry)) (now (counts .entry)) mask) everything (bits (now (marks .entry)) a)) ++ drop n (now (choices .entry))) × (now (marks .exit) ≡ noted n k (marked (eventuallyOf (inCounts n (now (starts .entry)) (now (successors .entry)) (now (counts .entry)) mask) (bits (now (marks .entry)) a))) (now (marks .entry))) ⌝ }
 {
     mark_spread(
@@ -307,6 +325,8 @@ pub fn mark_last(
         starts,
         successors,
         counts,
+        froms,
+        owners,
         mask,
         true,
         false,

@@ -1,25 +1,29 @@
 -- The tables before the first state is expanded, and after a refusal.
-use Prim.Native.Nat.{ℕ, zero, suc, _+_, _-_, _*_, _<_}
+use Prim.Native.Nat.{ℕ, zero, suc, _+_, _-_, _*_, _≤_, _<_}
 use mathlib.Core.Path.{_≡_, refl, sym, ap, _∙_, subst}
 use mathlib.Core.List.{List, [], _∷_}
 use native.Mathlib.Omega.{arith}
-use lib.ListN.{length, set, replicate}
+use lib.ListN.{length, getD, set, replicate}
+use Rattle.tables.specs.Lengths.{stateLimit}
 use Rattle.tables.specs.Pad.{pad}
-use Rattle.tables.proofs.Pad.{set-pad, cleared}
+use Rattle.tables.proofs.Pad.{length-pad, getD-pad, set-pad, cleared}
+use Rattle.lookup.specs.Chains.{chains, chainOf, Chained}
+use Rattle.lookup.proofs.Chains.{chained-none, chained-more}
 use Rattle.meaning.specs.Rules.{Rules}
 use Rattle.meaning.proofs.Explore.{found-first}
 use Rattle.meaning.proofs.Outcome.{begun}
 use Rattle.offer.specs.Offer.{roleLimit}
 use Rattle.model.specs.Tables.{Holds, Sized, Fresh, Zeros, Stage}
 
-pub fresh : (limit joints x : ℕ) (st sa su co st′ sa′ su′ co′ : List ℕ) → 0 < limit → Sized limit joints st sa su co
-    → st′ ≡ replicate (length st) 0 → sa′ ≡ replicate (length sa) 0 → su′ ≡ replicate (length su) 0 → co′ ≡ replicate (length co) 0
-    → Fresh limit joints x (set st′ 0 x) sa′ su′ co′
-fresh limit joints x st sa su co st′ sa′ su′ co′ h z p q r t = record {
+pub fresh : (limit joints x : ℕ) (st sa su co vi st′ sa′ su′ co′ vi′ : List ℕ) → 0 < limit → Sized limit joints st sa su co vi
+    → st′ ≡ replicate (length st) 0 → sa′ ≡ replicate (length sa) 0 → su′ ≡ replicate (length su) 0 → co′ ≡ replicate (length co) 0 → vi′ ≡ replicate (length vi) 0
+    → Fresh limit joints x (set st′ 0 x) sa′ su′ co′ vi′
+fresh limit joints x st sa su co vi st′ sa′ su′ co′ vi′ h z p q r t v = record {
   states-are = ap (λ (l : List ℕ). set l 0 x) (cleared limit st st′ p (z .states-long)) ∙ set-pad limit [] x h;
   starts-zero = cleared (limit + 1) sa sa′ q (z .starts-long);
   successors-zero = cleared joints su su′ r (z .successors-long);
   counts-zero = cleared (roleLimit * limit) co co′ t (z .counts-long);
+  views-zero = cleared limit vi vi′ v (z .views-long);
 }
 
 -- one zero more or less is the same table
@@ -32,21 +36,32 @@ one-zero (suc n) h =
     rw (e, f) refl
 
 -- with the state 0 alone every entry is zero
-pub zeros : {limit joints : ℕ} {st sa su co : List ℕ} → 0 < limit → Fresh limit joints 0 st sa su co → Zeros limit joints st sa su co
+pub zeros : {limit joints : ℕ} {st sa su co vi : List ℕ} → 0 < limit → Fresh limit joints 0 st sa su co vi → Zeros limit joints st sa su co vi
 zeros {limit} h f = record {
   states-zero = f .states-are ∙ sym (one-zero limit h);
   starts-zero = f .starts-zero;
   successors-zero = f .successors-zero;
   counts-zero = f .counts-zero;
+  views-zero = f .views-zero;
 }
 
 -- with the initial state alone nothing is expanded; the first start is zero, as the cleared table has it
-pub first : (R : Rules) {limit joints x : ℕ} {st sa su co : List ℕ} → Fresh limit joints x st sa su co → x ≡ R .initial → 0 < limit → Stage R limit joints 0 st 1 sa su 0 co
-first R {limit} {joints} {x} {st} f e h = record {
+pub first : (R : Rules) (seen : ℕ → ℕ) {limit joints x : ℕ} {st sa su co vi : List ℕ} → Fresh limit joints x st sa su co vi → x ≡ R .initial → 0 < limit → Stage R seen limit joints 0 st 1 sa su 0 co vi
+first R seen {limit} {joints} {x} {st} f e h = record {
   so-far = begun R limit joints h;
   states-hold =
       subst (λ (l : List ℕ). Holds limit st 1 l) (ap (λ (y : ℕ). y ∷ []) e ∙ sym (found-first R)) (record { is = f .states-are; count = refl; room = h });
   starts-hold = record { is = f .starts-zero ∙ one-zero (limit + 1) (omega arith); count = refl; room = omega arith };
   successors-hold = record { is = f .successors-zero; count = refl; room = omega arith };
   counts-hold = record { is = f .counts-zero; count = refl; room = omega arith };
+  views-hold = record { is = f .views-zero; count = refl; room = omega arith };
 }
+
+-- and it alone stands on a chain
+pub first-chained : {limit joints x : ℕ} {st sa su co vi : List ℕ} → Fresh limit joints x st sa su co vi → 0 < limit → (slots links : List ℕ)
+    → slots ≡ set (replicate chains 0) (chainOf x) 1 → links ≡ set (replicate stateLimit 0) 0 (getD (replicate chains 0) (chainOf x) 0) → Chained st 1 slots links
+first-chained {limit} {x = x} {st} f h slots links p q =
+    let one : 1 ≤ limit = omega arith in
+    rw (p, q)
+    (chained-more (chained-none st) x (ap (λ (l : List ℕ). getD l 0 0) (f .states-are) ∙ getD-pad limit (x ∷ []) 0) (λ i b. absurd (omega arith))
+    (omega (arith, ap length (f .states-are) ∙ length-pad limit (x ∷ []) one)) (omega arith))

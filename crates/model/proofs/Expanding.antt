@@ -1,7 +1,7 @@
 -- One state is expanded: its refusals in their order, or the tables with what it adds; and the end, when none is left.
 use Prim.Native.Nat.{ℕ, suc, _+_, _-_, _*_, _≤_, _<_}
 use mathlib.Core.Path.{_≡_, sym, ap, ap₂, _∙_, subst}
-use mathlib.Core.List.{List, [], _∷_, _++_, append-nil}
+use mathlib.Core.List.{List, [], _∷_, _++_, map, append-nil, map-append}
 use native.Mathlib.Numerals.{add-one}
 use native.Mathlib.Omega.{arith}
 use lib.ListN.{length, getD, take, set, length-map}
@@ -20,11 +20,12 @@ use Rattle.meaning.proofs.Outcome.{turned, refused, finished}
 use Rattle.offer.specs.Offer.{roleLimit}
 use Rattle.choices.proofs.Joints.{none-left, left-none}
 use Rattle.model.specs.Counts.{rowOf, counts, countsTo}
+use Rattle.model.specs.Views.{viewsTo}
 use Rattle.model.specs.Tables.{Holds, numbers, Stage}
 use Rattle.model.specs.Answers.{Accepts}
 use Rattle.model.proofs.Holding.{holds-take, holds-entry, holds-more, holds-counted}
 
-module _ (R : Rules) (limit joints : ℕ) {k n at : ℕ} {st sa su co : List ℕ} (g : Stage R limit joints k st n sa su at co) (h : k < n) (x m : ℕ) (x-is : x ≡ getD st k 0) (m-is : m ≡ length (moves R x)) where
+module _ (R : Rules) (seen : ℕ → ℕ) (limit joints : ℕ) {k n at : ℕ} {st sa su co vi : List ℕ} (g : Stage R seen limit joints k st n sa su at co vi) (h : k < n) (x m : ℕ) (x-is : x ≡ getD st k 0) (m-is : m ≡ length (moves R x)) where
   here : k < length (found R k)
   here = omega (arith, g .states-hold .count)
 
@@ -84,26 +85,34 @@ module _ (R : Rules) (limit joints : ℕ) {k n at : ℕ} {st sa su co : List ℕ
         ∙ ap (λ (r : List ℕ). countsTo R k ++ r) (sym (append-nil (rowOf R s)))
         ∙ sym (ap (counts R) (found-same R k ∙ take-suc (found R k) k 0 here) ∙ all-append (rowOf R) (take k (found R k)) (s ∷ []))
 
-    pub next : (m ≡ 0 → ⊥) → m ≤ joints - at → (more : ℕ) (st′ su′ co′ : List ℕ) (row : List ℕ) → row ≡ rowOf R x
+    views-next : (v : ℕ) → v ≡ seen x → Holds limit (set vi k v) (k + 1) (viewsTo R seen (suc k))
+    views-next v e =
+        subst (λ (l : List ℕ). Holds limit (set vi k v) (k + 1) l)
+        (ap (λ (y : ℕ). viewsTo R seen k ++ (y ∷ [])) (e ∙ ap seen state-is)
+        ∙ sym (ap (map seen) (found-same R k ∙ take-suc (found R k) k 0 here) ∙ map-append seen (take k (found R k)) (s ∷ [])))
+        (holds-more (g .views-hold) v (omega (arith, g .states-hold .room)))
+
+    pub next : (m ≡ 0 → ⊥) → m ≤ joints - at → (more : ℕ) (st′ su′ co′ : List ℕ) (row : List ℕ) → row ≡ rowOf R x → (v : ℕ) → v ≡ seen x
         → Holds limit st′ more (add (take n st) (tabulate m f)) → Holds joints su′ (at + m) (take at su ++ numbers (add (take n st) (tabulate m f)) (tabulate m f))
         → Holds (roleLimit * limit) co′ (roleLimit * (k + 1)) (take (roleLimit * k) co ++ row)
-        → Stage R limit joints (k + 1) st′ more (set sa (k + 1) (at + m)) su′ (at + m) co′
-    next e b more st′ su′ co′ row r p q w =
+        → Stage R seen limit joints (k + 1) st′ more (set sa (k + 1) (at + m)) su′ (at + m) co′ (set vi k v)
+    next e b more st′ su′ co′ row r v is p q w =
         let states-next : Holds limit st′ more (found R (suc k)) = subst (λ (l : List ℕ). Holds limit st′ more l) found-is p in
         let grown : Holds (limit + 1) (set sa (k + 1) (at + m)) (k + 1 + 1) (startsTo R k ++ ((at + m) ∷ [])) = holds-more (g .starts-hold) (at + m) (omega (arith, g .states-hold .room)) in
         let starts-are : startsTo R k ++ ((at + m) ∷ []) ≡ startsTo R (suc k) = ap (λ (t : ℕ). startsTo R k ++ (t ∷ [])) (sym total-is) ∙ sym (starts-next R k here) in
-        subst (λ (i : ℕ). Stage R limit joints i st′ more (set sa (k + 1) (at + m)) su′ (at + m) co′) (sym (add-one k))
+        subst (λ (i : ℕ). Stage R seen limit joints i st′ more (set sa (k + 1) (at + m)) su′ (at + m) co′ (set vi k v)) (sym (add-one k))
         (record {
           so-far = turned R limit joints k (g .so-far) here (lively e) (omega (arith, total-is, g .successors-hold .room)) (omega (arith, states-next .count, states-next .room));
           states-hold = states-next;
           starts-hold = holds-counted (subst (λ (l : List ℕ). Holds (limit + 1) (set sa (k + 1) (at + m)) (k + 1 + 1) l) starts-are grown) (omega arith);
           successors-hold = subst (λ (l : List ℕ). Holds joints su′ (at + m) l) successors-are q;
           counts-hold = holds-counted (subst (λ (l : List ℕ). Holds (roleLimit * limit) co′ (roleLimit * (k + 1)) l) (counts-are row r) w) (omega arith);
+          views-hold = holds-counted (views-next v is) (omega arith);
         })
 
 -- the end: no state is left
-pub done : (R : Rules) (limit joints : ℕ) {k n at : ℕ} {st sa su co : List ℕ} → Stage R limit joints k st n sa su at co → n ≤ k → Accepts R limit joints n at st sa su co
-done R limit joints {k} g b =
+pub done : (R : Rules) (seen : ℕ → ℕ) (limit joints : ℕ) {k n at : ℕ} {st sa su co vi : List ℕ} → Stage R seen limit joints k st n sa su at co vi → n ≤ k → Accepts R seen limit joints n at st sa su co vi
+done R seen limit joints {k} g b =
     let all-of : length (found R k) ≤ k = omega (arith, g .states-hold .count) in
     let whole = take-all k (found R k) all-of in
     record {
@@ -115,4 +124,5 @@ done R limit joints {k} g b =
       starts-are = g .starts-hold .is ∙ ap (pad (limit + 1)) (starts-done R k all-of);
       successors-are = g .successors-hold .is ∙ ap (pad joints) (successors-done R k all-of);
       counts-are = g .counts-hold .is ∙ ap (λ (l : List ℕ). pad (roleLimit * limit) (counts R l)) whole;
+      views-are = g .views-hold .is ∙ ap (λ (l : List ℕ). pad limit (map seen l)) whole;
     }

@@ -1,8 +1,8 @@
--- What the four tables of an accepted model say, entry by entry; and that the answer and the tables are determined.
+-- What the five tables of an accepted model say, entry by entry; and that the answer and the tables are determined.
 use Prim.Native.Nat.{ℕ, zero, suc, _+_, _*_, _<_}
 use mathlib.Core.Path.{_≡_, sym, ap, ap₂, _∙_, subst}
 use mathlib.Core.Logic.{_↔_}
-use mathlib.Core.List.{List, [], _∷_, _++_}
+use mathlib.Core.List.{List, [], _∷_, _++_, map}
 use native.Mathlib.Nat.{not-suc-le-zero, le-of-suc-le-suc}
 use native.Mathlib.Omega.{arith}
 use lib.ListN.{length, getD, List·getD-append, length-map}
@@ -13,7 +13,7 @@ use Rattle.tables.proofs.Pad.{getD-pad}
 use Rattle.meaning.specs.Lists.{_∈_, all, place}
 use Rattle.meaning.specs.Rules.{Rules, moves, after, targets, Reach}
 use Rattle.meaning.specs.Model.{total, IsRefusal, IsModel, starts, successors}
-use Rattle.meaning.proofs.Lists.{at-∈, ∈-at, at-place, place-lt}
+use Rattle.meaning.proofs.Lists.{at-∈, ∈-at, getD-map, at-place, place-lt}
 use Rattle.meaning.proofs.Firsts.{distinct-place}
 use Rattle.meaning.proofs.Numbering as numbering
 use Rattle.meaning.proofs.Bridge.{target-at}
@@ -28,7 +28,7 @@ use Rattle.model.specs.declared.Built.the-variants.{Accepted, Refused}
 use Rattle.model.specs.Counts.{countOf, rowOf, counts}
 use Rattle.model.specs.Answers.{numberOf, placeOf, Accepts, Builds}
 
-module _ {R : Rules} {limit joints n m : ℕ} {st sa su co : List ℕ} (a : Accepts R limit joints n m st sa su co) where
+module _ {R : Rules} {seen : ℕ → ℕ} {limit joints n m : ℕ} {st sa su co vi : List ℕ} (a : Accepts R seen limit joints n m st sa su co vi) where
   abbrev l : List ℕ
   l = a .positions
 
@@ -115,6 +115,11 @@ module _ {R : Rules} {limit joints n m : ℕ} {st sa su co : List ℕ} (a : Acce
           ∙ getD-append-add (rowOf R s) (counts R k) (roleLimit * i + r) 0
           ∙ go k i (le-of-suc-le-suc h)
 
+  -- The views of state i.
+  pub views-right : (i : ℕ) → i < n → getD vi i 0 ≡ seen (getD st i 0)
+  views-right i h =
+      ap (λ (t : List ℕ). getD t i 0) (a .views-are) ∙ getD-pad limit (map seen l) i ∙ getD-map seen l i 0 0 (inside i h) ∙ ap seen (sym (state-is i))
+
 -- A refusal has one number and one place.
 same-refusal : (f g : Refusal) → numberOf f ≡ numberOf g → placeOf f ≡ placeOf g → f ≡ g
 same-refusal (NoChoice k) (NoChoice i) e p = ap NoChoice p
@@ -127,31 +132,33 @@ same-refusal (ManyMoves k) (ManyStates i) e p = absurd (omega (arith, e))
 same-refusal (ManyStates k) (NoChoice i) e p = absurd (omega (arith, e))
 same-refusal (ManyStates k) (ManyMoves i) e p = absurd (omega (arith, e))
 
-module _ (R : Rules) (limit joints : ℕ) where
+module _ (R : Rules) (seen : ℕ → ℕ) (limit joints : ℕ) where
   -- An accepted model is accepted, and a refusal is given, exactly where the meaning says so.
-  pub accepted-exactly : (r : Built) (st sa su co : List ℕ) → Builds R limit joints r st sa su co → (l : List ℕ) → IsModel R limit joints l → r ≡ Accepted (length l) (total R l)
-  accepted-exactly (Accepted n m) st sa su co b l is =
+  pub accepted-exactly : (r : Built) (st sa su co vi : List ℕ) → Builds R seen limit joints r st sa su co vi → (l : List ℕ) → IsModel R limit joints l → r ≡ Accepted (length l) (total R l)
+  accepted-exactly (Accepted n m) st sa su co vi b l is =
       let same = model-unique R limit joints (b .positions) l (b .is-model) is in
       ap₂ Accepted (b .count ∙ ap length same) (b .moves ∙ ap (total R) same)
-  accepted-exactly (Refused f) st sa su co b l is = absurd (model-not-refused R limit joints l (numberOf f) (placeOf f) is (b .0))
+  accepted-exactly (Refused f) st sa su co vi b l is = absurd (model-not-refused R limit joints l (numberOf f) (placeOf f) is (b .0))
 
-  pub refused-exactly : (r : Built) (st sa su co : List ℕ) → Builds R limit joints r st sa su co → (f : Refusal) → IsRefusal R limit joints (numberOf f) (placeOf f) → r ≡ Refused f
-  refused-exactly (Accepted n m) st sa su co b f is = absurd (model-not-refused R limit joints (b .positions) (numberOf f) (placeOf f) (b .is-model) is)
-  refused-exactly (Refused g) st sa su co b f is =
+  pub refused-exactly : (r : Built) (st sa su co vi : List ℕ) → Builds R seen limit joints r st sa su co vi → (f : Refusal) → IsRefusal R limit joints (numberOf f) (placeOf f) → r ≡ Refused f
+  refused-exactly (Accepted n m) st sa su co vi b f is = absurd (model-not-refused R limit joints (b .positions) (numberOf f) (placeOf f) (b .is-model) is)
+  refused-exactly (Refused g) st sa su co vi b f is =
       let (e, p) = refusal-unique R limit joints (numberOf g) (placeOf g) (numberOf f) (placeOf f) (b .0) is in
       ap Refused (same-refusal g f e p)
 
-  -- The answer and the four tables.
-  pub record Same (r r′ : Built) (st st′ sa sa′ su su′ co co′ : List ℕ) : Type 0 where
+  -- The answer and the five tables.
+  pub record Same (r r′ : Built) (st st′ sa sa′ su su′ co co′ vi vi′ : List ℕ) : Type 0 where
     pub answer : r ≡ r′
     pub states-same : st ≡ st′
     pub starts-same : sa ≡ sa′
     pub successors-same : su ≡ su′
     pub counts-same : co ≡ co′
+    pub views-same : vi ≡ vi′
 
-  -- The contract determines the answer and every entry of the four tables.
-  pub built-unique : (r r′ : Built) (st st′ sa sa′ su su′ co co′ : List ℕ) → Builds R limit joints r st sa su co → Builds R limit joints r′ st′ sa′ su′ co′ → Same r r′ st st′ sa sa′ su su′ co co′
-  built-unique (Accepted n m) (Accepted n′ m′) st st′ sa sa′ su su′ co co′ a b =
+  -- The contract determines the answer and every entry of the five tables.
+  pub built-unique : (r r′ : Built) (st st′ sa sa′ su su′ co co′ vi vi′ : List ℕ) → Builds R seen limit joints r st sa su co vi → Builds R seen limit joints r′ st′ sa′ su′ co′ vi′
+      → Same r r′ st st′ sa sa′ su su′ co co′ vi vi′
+  built-unique (Accepted n m) (Accepted n′ m′) st st′ sa sa′ su su′ co co′ vi vi′ a b =
       let same = model-unique R limit joints (a .positions) (b .positions) (a .is-model) (b .is-model) in
       record {
         answer = ap₂ Accepted (a .count ∙ ap length same ∙ sym (b .count)) (a .moves ∙ ap (total R) same ∙ sym (b .moves));
@@ -159,8 +166,9 @@ module _ (R : Rules) (limit joints : ℕ) where
         starts-same = a .starts-are ∙ ap (λ (k : List ℕ). pad (limit + 1) (starts R k)) same ∙ sym (b .starts-are);
         successors-same = a .successors-are ∙ ap (λ (k : List ℕ). pad joints (successors R k)) same ∙ sym (b .successors-are);
         counts-same = a .counts-are ∙ ap (λ (k : List ℕ). pad (roleLimit * limit) (counts R k)) same ∙ sym (b .counts-are);
+        views-same = a .views-are ∙ ap (λ (k : List ℕ). pad limit (map seen k)) same ∙ sym (b .views-are);
       }
-  built-unique (Refused f) (Refused g) st st′ sa sa′ su su′ co co′ a b =
+  built-unique (Refused f) (Refused g) st st′ sa sa′ su su′ co co′ vi vi′ a b =
       let (e, p) = refusal-unique R limit joints (numberOf f) (placeOf f) (numberOf g) (placeOf g) (a .0) (b .0) in
       record {
         answer = ap Refused (same-refusal f g e p);
@@ -168,6 +176,7 @@ module _ (R : Rules) (limit joints : ℕ) where
         starts-same = a .1 .starts-zero ∙ sym (b .1 .starts-zero);
         successors-same = a .1 .successors-zero ∙ sym (b .1 .successors-zero);
         counts-same = a .1 .counts-zero ∙ sym (b .1 .counts-zero);
+        views-same = a .1 .views-zero ∙ sym (b .1 .views-zero);
       }
-  built-unique (Accepted n m) (Refused g) st st′ sa sa′ su su′ co co′ a b = absurd (model-not-refused R limit joints (a .positions) (numberOf g) (placeOf g) (a .is-model) (b .0))
-  built-unique (Refused f) (Accepted n m) st st′ sa sa′ su su′ co co′ a b = absurd (model-not-refused R limit joints (b .positions) (numberOf f) (placeOf f) (b .is-model) (a .0))
+  built-unique (Accepted n m) (Refused g) st st′ sa sa′ su su′ co co′ vi vi′ a b = absurd (model-not-refused R limit joints (a .positions) (numberOf g) (placeOf g) (a .is-model) (b .0))
+  built-unique (Refused f) (Accepted n m) st st′ sa sa′ su su′ co co′ vi vi′ a b = absurd (model-not-refused R limit joints (b .positions) (numberOf f) (placeOf f) (b .is-model) (a .0))

@@ -1,7 +1,7 @@
 -- The answers of the builder: what each says of the game, and what the tables then hold.
 use Prim.Native.Nat.{ℕ, _+_, _*_, _<_}
 use mathlib.Core.Path.{_≡_}
-use mathlib.Core.List.{List, _++_}
+use mathlib.Core.List.{List, _++_, map}
 use lib.ListN.{length}
 use Rattle.tables.specs.Pad.{pad}
 use Rattle.meaning.specs.Rules.{Rules}
@@ -11,6 +11,7 @@ use Rattle.offer.specs.Offer.{roleLimit}
 use Rattle.model.specs.Counts.{counts}
 use Rattle.model.specs.Tables.{Holds, numbers, Zeros, Stage}
 use Rattle.meaning.specs.Lists.{place}
+use Rattle.lookup.specs.Chains.{Chained}
 use Rattle.model.specs.declared.Slot.{Slot}
 use Rattle.model.specs.declared.Slot.the-variants.{At, Full}
 use Rattle.model.specs.declared.Listing.{Listing}
@@ -34,24 +35,26 @@ placeOf (NoChoice k) = k
 placeOf (ManyMoves k) = k
 placeOf (ManyStates k) = k
 
--- What entering t into a table that holds l answers: the number of t, and the table holds l with t; or there is no room.
-abbrev pub Entered : ℕ → List ℕ → ℕ → Slot → List ℕ → Type 0
-Entered limit l t (At i n) states = (i ≡ place t l) × Holds limit states n (grown l t)
-Entered limit l t Full states = limit < length (grown l t)
+-- What entering t into a table that holds l answers: the number of t, and the table holds l with t, on its chains; or there is no room.
+abbrev pub Entered : ℕ → List ℕ → ℕ → Slot → (states slots links : List ℕ) → Type 0
+Entered limit l t (At i n) states slots links = (i ≡ place t l) × Holds limit states n (grown l t) × Chained states n slots links
+Entered limit l t Full states slots links = limit < length (grown l t)
 
 -- What listing the targets ts answers, where the tables held the states l and the successors z.
-abbrev pub Listed : (limit joints : ℕ) (l z ts : List ℕ) → Listing → List ℕ → List ℕ → ℕ → Type 0
-Listed limit joints l z ts (Done n) states successors at = Holds limit states n (add l ts) × Holds joints successors at (z ++ numbers (add l ts) ts)
-Listed limit joints l z ts Over states successors at = limit < length (add l ts)
+abbrev pub Listed : (limit joints : ℕ) (l z ts : List ℕ) → Listing → (states slots links successors : List ℕ) → ℕ → Type 0
+Listed limit joints l z ts (Done n) states slots links successors at =
+    Holds limit states n (add l ts) × Holds joints successors at (z ++ numbers (add l ts) ts) × Chained states n slots links
+Listed limit joints l z ts Over states slots links successors at = limit < length (add l ts)
 
-module _ (R : Rules) (limit joints : ℕ) where
+-- The game's rules, the views of each position, and the limits.
+module _ (R : Rules) (seen : ℕ → ℕ) (limit joints : ℕ) where
   -- What expanding position k answers: one position more is expanded, or it is refused.
-  abbrev pub Expanded : ℕ → Step → (states starts successors counts : List ℕ) → Type 0
-  Expanded k (Next n at) states starts successors counts = Stage R limit joints (k + 1) states n starts successors at counts
-  Expanded k (Stop f) states starts successors counts = IsRefusal R limit joints (numberOf f) (placeOf f)
+  abbrev pub Expanded : ℕ → Step → (states slots links starts successors counts views : List ℕ) → Type 0
+  Expanded k (Next n at) states slots links starts successors counts views = Stage R seen limit joints (k + 1) states n starts successors at counts views × Chained states n slots links
+  Expanded k (Stop f) states slots links starts successors counts views = IsRefusal R limit joints (numberOf f) (placeOf f)
 
   -- The model is accepted: the answer has its counts, and the tables hold it.
-  pub record Accepts (n m : ℕ) (states-table starts-table successors-table counts-table : List ℕ) : Type 0 where
+  pub record Accepts (n m : ℕ) (states-table starts-table successors-table counts-table views-table : List ℕ) : Type 0 where
     pub positions : List ℕ
     pub is-model : IsModel R limit joints positions
     pub count : n ≡ length positions
@@ -60,13 +63,14 @@ module _ (R : Rules) (limit joints : ℕ) where
     pub starts-are : starts-table ≡ pad (limit + 1) (starts R positions)
     pub successors-are : successors-table ≡ pad joints (successors R positions)
     pub counts-are : counts-table ≡ pad (roleLimit * limit) (counts R positions)
+    pub views-are : views-table ≡ pad limit (map seen positions)
 
   -- What expanding every position answers; on a refusal nothing is said of the tables yet.
-  abbrev pub Explored : Built → (states starts successors counts : List ℕ) → Type 0
-  Explored (Accepted n m) states starts successors counts = Accepts n m states starts successors counts
-  Explored (Refused f) states starts successors counts = IsRefusal R limit joints (numberOf f) (placeOf f)
+  abbrev pub Explored : Built → (states starts successors counts views : List ℕ) → Type 0
+  Explored (Accepted n m) states starts successors counts views = Accepts n m states starts successors counts views
+  Explored (Refused f) states starts successors counts views = IsRefusal R limit joints (numberOf f) (placeOf f)
 
   -- What building answers: an accepted model in the tables, or a refusal and every entry zero.
-  abbrev pub Builds : Built → (states starts successors counts : List ℕ) → Type 0
-  Builds (Accepted n m) states starts successors counts = Accepts n m states starts successors counts
-  Builds (Refused f) states starts successors counts = IsRefusal R limit joints (numberOf f) (placeOf f) × Zeros limit joints states starts successors counts
+  abbrev pub Builds : Built → (states starts successors counts views : List ℕ) → Type 0
+  Builds (Accepted n m) states starts successors counts views = Accepts n m states starts successors counts views
+  Builds (Refused f) states starts successors counts views = IsRefusal R limit joints (numberOf f) (placeOf f) × Zeros limit joints states starts successors counts views

@@ -1,18 +1,29 @@
-// The reachable model of a game, built into lent tables: states by number, starts, successors, and each role's count of moves.
+// The reachable model of a game, built into lent tables: states by number, starts, successors, each role's count of moves, and the views.
 ghost use mathlib.Core.Path.{_≡_};
 ghost use mathlib.Core.List.{_++_};
 ghost use Prim.Native.Nat.{_+_, _*_, _≤_, _<_};
 ghost use lib.ListN.{length, take, getD};
 ghost use Rattle.tables.specs.Lengths.{stateLimit, moveLimit};
 ghost use Rattle.atl.specs.Bounded.{tabulate};
+ghost use Rattle.sheet.specs.Limits.{mostRules};
 ghost use Rattle.sheet.specs.Reading.{sheetIn};
 ghost use Rattle.position.specs.Position.{rulesOf};
-ghost use Rattle.offer.specs.Offer.{roleLimit, Whole, Studied, offerOf, jointsOf, roleOf, targetOf};
+ghost use Rattle.offer.specs.Offer.{roleLimit, Whole, Studied, Coded, Lives, offerOf, jointsOf, roleOf, targetOf};
+ghost use Rattle.lookup.specs.Chains.{Chained};
+ghost use Rattle.model.specs.Views.{viewsOf};
 ghost use Rattle.model.specs.Tables.{Holds, Clean, Sized, Fresh, Stage};
 ghost use Rattle.model.specs.Answers.{Entered, Listed, Expanded, Explored, Builds};
+use codes::CODE_ROOM;
+use codes::ENDS_ROOM;
+use codes::compile;
+use live::LIVE_ROOM;
+use lookup::CHAINS;
+use lookup::enroll;
+use lookup::seek;
 use offer::Offer;
 use offer::initial;
 use offer::joint_count;
+use offer::live_at;
 use offer::offer_at;
 use offer::role_count;
 use offer::target_of;
@@ -21,7 +32,6 @@ use tables::MOVE_LIMIT;
 use tables::STATE_LIMIT;
 use tables::clear16;
 use tables::clear64;
-use tables::find;
 
 // The most roles that a sheet may have: the counts of a position stand in as many entries.
 pub const ROLE_LIMIT: usize = 4;
@@ -58,16 +68,17 @@ pub enum Built {
 }
 
 // The number of state t, which is entered where it is new.
-fn enter(states: &mut [u64], n: usize, t: u64) -> Slot
-    requires { ⌜ Clean stateLimit (now states) n ⌝ }
-    ensures { λ r. ⌜ Entered stateLimit (take n (now (states .entry))) t r (now (states .exit)) ⌝ }
+fn enter(states: &mut [u64], slots: &mut [u16], links: &mut [u16], n: usize, t: u64) -> Slot
+    requires { ⌜ Clean stateLimit (now states) n × Chained (now states) n (now slots) (now links) ⌝ }
+    ensures { λ r. ⌜ Entered stateLimit (take n (now (states .entry))) t r (now (states .exit)) (now (slots .exit)) (now (links .exit)) ⌝ }
 {
-    let at = find(states, n, t);
+    let at = seek(states, slots, links, n, t);
     if at < n {
         return Slot::At(at, n);
     }
     if n < STATE_LIMIT {
         states[n] = t;
+        enroll(slots, links, n, t);
         return Slot::At(n, n + 1);
     }
     Slot::Full
@@ -78,21 +89,27 @@ fn list_targets(
     s: &[u8],
     y: Layout,
     o: Offer,
+    code: &[u64],
+    live: &[u16],
+    lives: usize,
     m: usize,
     states: &mut [u64],
+    slots: &mut [u16],
+    links: &mut [u16],
     n: usize,
     successors: &mut [u16],
     at: usize,
 ) -> Listing
-    requires { ⌜ Whole (now s) y × (m ≡ jointsOf o (y .sizes .roles)) × Clean stateLimit (now states) n × Clean moveLimit (now successors) at × (at + m ≤ moveLimit) ⌝ }
+    requires { ⌜ Whole (now s) y × (m ≡ jointsOf o (y .sizes .roles)) × Clean stateLimit (now states) n × Chained (now states) n (now slots) (now links)
+        × Clean moveLimit (now successors) at × (at + m ≤ moveLimit) × Lives (sheetIn (now s) y) o (now code) (now live) lives ⌝ }
     ensures { λ r. ⌜ Listed stateLimit moveLimit (take n (now (states .entry))) (take at (now (successors .entry))) (tabulate m (targetOf (sheetIn (now (s .entry)) y) o))
-        r (now (states .exit)) (now (successors .exit)) (at + m) ⌝ }
+        r (now (states .exit)) (now (slots .exit)) (now (links .exit)) (now (successors .exit)) (at + m) ⌝ }
 {
     let mut count = n;
     let mut j: usize = 0;
     while j < m {
-        let t = target_of(s, y, o, j);
-        let slot = enter(states, count, t);
+        let t = target_of(s, y, o, code, live, lives, j);
+        let slot = enter(states, slots, links, count, t);
         match slot {
             Slot::At(i, more) => {
                 successors[at + j] = i as u16;
@@ -119,26 +136,44 @@ fn note_counts(o: Offer, y: Layout, k: usize, counts: &mut [u16])
     }
 }
 
+// The views of a position, as it was found with what it offers.
+fn views_of(o: Offer) -> u64
+    ensures { λ r. ⌜ r ≡ o .look .views .bits ⌝ }
+{
+    let look = o.look;
+    let views = look.views;
+    views.number()
+}
+
 // State k is expanded: its choices, its joint moves, their targets; its refusals in the order 8, 7, 6.
 fn expand(
     s: &[u8],
     y: Layout,
     masks: &[u64; 64],
+    code: &[u64],
+    ends: &[u16],
     moves: [u16; 4],
     k: usize,
     states: &mut [u64],
+    slots: &mut [u16],
+    links: &mut [u16],
     n: usize,
     starts: &mut [u16],
     successors: &mut [u16],
     at: usize,
     counts: &mut [u16],
+    views: &mut [u64],
+    live: &mut [u16],
 ) -> Step
     requires { ⌜ Whole (now s) y × Studied (sheetIn (now s) y) (now masks) moves × (k < n)
-        × Stage (rulesOf (sheetIn (now s) y)) stateLimit moveLimit k (now states) n (now starts) (now successors) at (now counts) ⌝ }
-    ensures { λ r. ⌜ Expanded (rulesOf (sheetIn (now (s .entry)) y)) stateLimit moveLimit k r (now (states .exit)) (now (starts .exit)) (now (successors .exit)) (now (counts .exit)) ⌝ }
+        × Stage (rulesOf (sheetIn (now s) y)) (viewsOf (sheetIn (now s) y)) stateLimit moveLimit k (now states) n (now starts) (now successors) at (now counts) (now views)
+        × Chained (now states) n (now slots) (now links)
+        × Coded (sheetIn (now s) y) (now masks) (now code) (now ends) × (mostRules ≤ length (now live)) ⌝ }
+    ensures { λ r. ⌜ Expanded (rulesOf (sheetIn (now (s .entry)) y)) (viewsOf (sheetIn (now (s .entry)) y)) stateLimit moveLimit k r
+        (now (states .exit)) (now (slots .exit)) (now (links .exit)) (now (starts .exit)) (now (successors .exit)) (now (counts .exit)) (now (views .exit)) ⌝ }
 {
     let x = states[k];
-    let o = offer_at(s, y, masks, moves, x);
+    let o = offer_at(s, y, masks, code, ends, moves, x);
     let m = joint_count(o, y);
     if m == 0 {
         return Step::Stop(Refusal::NoChoice(k));
@@ -148,8 +183,24 @@ fn expand(
     }
     let total = at + m;
     note_counts(o, y, k, counts);
+    views[k] = views_of(o);
     starts[k + 1] = total as u16;
-    let listing = list_targets(s, y, o, m, states, n, successors, at);
+    let lives = live_at(code, ends, o, live);
+    let listing = list_targets(
+        s,
+        y,
+        o,
+        code,
+        live,
+        lives,
+        m,
+        states,
+        slots,
+        links,
+        n,
+        successors,
+        at,
+    );
     match listing {
         Listing::Done(more) => Step::Next(more, total),
         Listing::Over => Step::Stop(Refusal::ManyStates(k)),
@@ -161,15 +212,24 @@ fn explore(
     s: &[u8],
     y: Layout,
     masks: &[u64; 64],
+    code: &[u64],
+    ends: &[u16],
     moves: [u16; 4],
     states: &mut [u64],
+    slots: &mut [u16],
+    links: &mut [u16],
     starts: &mut [u16],
     successors: &mut [u16],
     counts: &mut [u16],
+    views: &mut [u64],
+    live: &mut [u16],
 ) -> Built
     requires { ⌜ Whole (now s) y × Studied (sheetIn (now s) y) (now masks) moves
-        × Stage (rulesOf (sheetIn (now s) y)) stateLimit moveLimit 0 (now states) 1 (now starts) (now successors) 0 (now counts) ⌝ }
-    ensures { λ r. ⌜ Explored (rulesOf (sheetIn (now (s .entry)) y)) stateLimit moveLimit r (now (states .exit)) (now (starts .exit)) (now (successors .exit)) (now (counts .exit)) ⌝ }
+        × Stage (rulesOf (sheetIn (now s) y)) (viewsOf (sheetIn (now s) y)) stateLimit moveLimit 0 (now states) 1 (now starts) (now successors) 0 (now counts) (now views)
+        × Chained (now states) 1 (now slots) (now links)
+        × Coded (sheetIn (now s) y) (now masks) (now code) (now ends) × (mostRules ≤ length (now live)) ⌝ }
+    ensures { λ r. ⌜ Explored (rulesOf (sheetIn (now (s .entry)) y)) (viewsOf (sheetIn (now (s .entry)) y)) stateLimit moveLimit r
+        (now (states .exit)) (now (starts .exit)) (now (successors .exit)) (now (counts .exit)) (now (views .exit)) ⌝ }
 {
     let mut n: usize = 1;
     let mut at: usize = 0;
@@ -179,14 +239,20 @@ fn explore(
             s,
             y,
             masks,
+            code,
+            ends,
             moves,
             k,
             states,
+            slots,
+            links,
             n,
             starts,
             successors,
             at,
             counts,
+            views,
+            live,
         );
         match step {
             Step::Next(more, total) => {
@@ -203,14 +269,22 @@ fn explore(
 }
 
 // The tables hold the state x and nothing else.
-fn reset(x: u64, states: &mut [u64], starts: &mut [u16], successors: &mut [u16], counts: &mut [u16])
-    requires { ⌜ Sized stateLimit moveLimit (now states) (now starts) (now successors) (now counts) ⌝ }
-    ensures { λ _. ⌜ Fresh stateLimit moveLimit x (now (states .exit)) (now (starts .exit)) (now (successors .exit)) (now (counts .exit)) ⌝ }
+fn reset(
+    x: u64,
+    states: &mut [u64],
+    starts: &mut [u16],
+    successors: &mut [u16],
+    counts: &mut [u16],
+    views: &mut [u64],
+)
+    requires { ⌜ Sized stateLimit moveLimit (now states) (now starts) (now successors) (now counts) (now views) ⌝ }
+    ensures { λ _. ⌜ Fresh stateLimit moveLimit x (now (states .exit)) (now (starts .exit)) (now (successors .exit)) (now (counts .exit)) (now (views .exit)) ⌝ }
 {
     clear64(states);
     clear16(starts);
     clear16(successors);
     clear16(counts);
+    clear64(views);
     states[0] = x;
 }
 
@@ -224,16 +298,40 @@ pub fn build(
     starts: &mut [u16],
     successors: &mut [u16],
     counts: &mut [u16],
+    views: &mut [u64],
 ) -> Built
     requires { ⌜ Whole (now s) y × Studied (sheetIn (now s) y) (now masks) moves
-        × Sized stateLimit moveLimit (now states) (now starts) (now successors) (now counts) ⌝ }
-    ensures { λ r. ⌜ Builds (rulesOf (sheetIn (now (s .entry)) y)) stateLimit moveLimit r (now (states .exit)) (now (starts .exit)) (now (successors .exit)) (now (counts .exit)) ⌝ }
+        × Sized stateLimit moveLimit (now states) (now starts) (now successors) (now counts) (now views) ⌝ }
+    ensures { λ r. ⌜ Builds (rulesOf (sheetIn (now (s .entry)) y)) (viewsOf (sheetIn (now (s .entry)) y)) stateLimit moveLimit r
+        (now (states .exit)) (now (starts .exit)) (now (successors .exit)) (now (counts .exit)) (now (views .exit)) ⌝ }
 {
     let x = initial(s, y);
-    reset(x, states, starts, successors, counts);
-    let built = explore(s, y, masks, moves, states, starts, successors, counts);
+    reset(x, states, starts, successors, counts, views);
+    let mut slots = [0u16; CHAINS];
+    let mut links = [0u16; STATE_LIMIT];
+    enroll(&mut slots, &mut links, 0, x);
+    let mut code = [0u64; CODE_ROOM];
+    let mut ends = [0u16; ENDS_ROOM];
+    compile(s, y.top, y.rules, masks, &mut code, &mut ends);
+    let mut live = [0u16; LIVE_ROOM];
+    let built = explore(
+        s,
+        y,
+        masks,
+        &code,
+        &ends,
+        moves,
+        states,
+        &mut slots,
+        &mut links,
+        starts,
+        successors,
+        counts,
+        views,
+        &mut live,
+    );
     if let Built::Refused(f) = built {
-        reset(0, states, starts, successors, counts);
+        reset(0, states, starts, successors, counts, views);
         return Built::Refused(f);
     }
     built

@@ -29,6 +29,7 @@ use Rattle.meaning.specs.Reference.{zeros, roundsFor, choicesFor, answer}
 use Rattle.meaning.proofs.Promise.{answer-meets}
 use Rattle.position.specs.Meaning.{nodeOf, nodesOf}
 use Rattle.position.specs.Position.{rulesOf}
+use Rattle.model.specs.Views.{viewsOf}
 use Rattle.model.specs.Answers.{Accepts}
 use Rattle.marking.specs.Rule.{bits}
 use Rattle.marks.specs.Noted.{noted}
@@ -100,7 +101,7 @@ module _ {s : List ℕ} {y : Layout} {n : ℕ} {states views starting following 
   abbrev nodes : List Node
   nodes = nodesOf d
 
-  abbrev model : Accepts (rulesOf (sheetIn s y)) stateLimit moveLimit n (ready .asked .moves) states starting following counting
+  abbrev model : Accepts (rulesOf (sheetIn s y)) (viewsOf (sheetIn s y)) stateLimit moveLimit n (ready .asked .moves) states starting following counting views
   model = ready .asked .model
 
   last-is : last nodes ≡ y .nodes - 1

@@ -2,9 +2,9 @@
 use Prim.Native.Nat.{ℕ, suc, _+_, _*_, _≤_, _<_}
 use mathlib.Core.Path.{_≡_, refl, sym, ap, ap₂, _∙_}
 use mathlib.Core.Bool.{not, _&&_, _||_}
-use mathlib.Core.List.{List, [], _++_}
+use mathlib.Core.List.{List, [], _++_, map}
 use native.Mathlib.Omega.{arith}
-use lib.ListN.{length, getD, take, drop}
+use lib.ListN.{length, getD, take, drop, replicate, length-replicate}
 use Rattle.tables.specs.Lengths.{stateLimit, moveLimit}
 use Rattle.tables.specs.Pad.{pad}
 use Rattle.sheet.specs.Data.{Sheet, nodeAt, rulesEnd}
@@ -17,17 +17,20 @@ use Rattle.sheet.specs.declared.question.Question.{Question}
 use Rattle.sheet.specs.declared.question.Question.the-variants.{Not, And, Or, Can}
 use Rattle.atl.specs.Game.{States, everything}
 use Rattle.atl.specs.Marking.{marked, rounds, plan}
-use Rattle.meaning.specs.Rules.{Rules, options}
+use Rattle.meaning.specs.Rules.{Rules, options, moves}
 use Rattle.meaning.specs.Atl as atl
 use Rattle.meaning.specs.Atl.{Node, TEST, CAN, EVENTUALLY}
 use Rattle.meaning.specs.Reference.{roundsFor, choicesFor}
 use Rattle.meaning.proofs.Firsts.{Distinct}
+use Rattle.meaning.proofs.Tables.{running-first}
 use Rattle.position.specs.Meaning.{nodeOf, nodesOf, askedBy}
 use Rattle.position.specs.Meaning as position
 use Rattle.position.specs.Position.{still, lookIn, says, rulesOf}
 use Rattle.position.proofs.Fitting.{sizes-room}
 use Rattle.position.proofs.Play.{options-distinct}
+use Rattle.model.specs.Views.{viewsOf}
 use Rattle.model.specs.Answers.{Accepts}
+use Rattle.incoming.specs.Owners.{Moves}
 use Rattle.marking.specs.Rule.{bits}
 use Rattle.marks.specs.Noted.{noted}
 use Rattle.marks.specs.Model.{positionsLimit, jointsLimit, Model, inCounts}
@@ -60,7 +63,7 @@ module _ {s : List ℕ} {y : Layout} {n : ℕ} {states views starting following 
   abbrev nodes : List Node
   nodes = nodesOf d
 
-  abbrev model : Accepts (rulesOf (sheetIn s y)) stateLimit moveLimit n (ready .asked .moves) states starting following counting
+  abbrev model : Accepts (rulesOf (sheetIn s y)) (viewsOf (sheetIn s y)) stateLimit moveLimit n (ready .asked .moves) states starting following counting views
   model = ready .asked .model
 
   four : R .roles ≤ 4
@@ -78,6 +81,20 @@ module _ {s : List ℕ} {y : Layout} {n : ℕ} {states views starting following 
   -- the tables are a model
   modelled : Model stateLimit moveLimit n starting following counting
   modelled = tables.modelled model four distinct
+
+  -- what is asked to index who leads where
+  pub leads-ask : Moves n starting following × (length following ≤ 8192) × (n < 1025) × (n < length (replicate {A = ℕ} 1025 0)) × (length following ≤ length (replicate {A = ℕ} 8192 0))
+  leads-ask = (
+    record {
+      placed = modelled .placed;
+      zero = held .starts-are 0 (omega arith) ∙ running-first 0 (map (λ s. length (moves R s)) l);
+      landed = modelled .landed;
+    },
+    modelled .fits,
+    omega (arith, modelled .few),
+    omega (arith, modelled .few, length-replicate {A = ℕ} 1025 0),
+    omega (arith, modelled .fits, length-replicate {A = ℕ} 8192 0),
+  )
 
   -- what a plain test is read off in a position
   look-is : (i : ℕ) → i < n → lookHeld states views i ≡ lookIn (d .rules) (getD l i 0) still

@@ -2,7 +2,7 @@
 use Prim.Native.Nat.{ℕ, _*_, _+_, _≤_, _<_}
 use mathlib.Core.Path.{_≡_, sym, ap, ap₂, _∙_, subst}
 use mathlib.Core.Bool.{Bool, cond}
-use mathlib.Core.List.{List, [], _∷_}
+use mathlib.Core.List.{List, [], _∷_, map}
 use native.Mathlib.Omega.{arith}
 use borrow.Author.Tests.{lt-ltb, le-ltb}
 use lib.Dec.{ltb}
@@ -27,7 +27,7 @@ counts-length : (R : Rules) (l : List ℕ) → length (counts R l) ≡ roleLimit
 counts-length R [] = omega arith
 counts-length R (x ∷ l) = length-append (rowOf R x) (counts R l) ∙ omega (arith, length-tabulate roleLimit (countOf R x), counts-length R l)
 
-module _ {R : Rules} {n m : ℕ} {states starting following counting : List ℕ} (a : Accepts R stateLimit moveLimit n m states starting following counting) where
+module _ {R : Rules} {seen : ℕ → ℕ} {n m : ℕ} {states starting following counting views : List ℕ} (a : Accepts R seen stateLimit moveLimit n m states starting following counting views) where
   positions-are : a .positions ≡ take n states
   positions-are = sym (ap₂ take (a .count) (a .states-are) ∙ take-pad stateLimit (a .positions))
 
@@ -55,6 +55,10 @@ module _ {R : Rules} {n m : ℕ} {states starting following counting : List ℕ}
   counts-long : length counting ≡ roleLimit * stateLimit
   counts-long =
       ap length (a .counts-are) ∙ length-pad (roleLimit * stateLimit) (counts R (a .positions)) (omega (arith, counts-length R (a .positions), a .is-model .few))
+
+  pub views-long : length views ≡ stateLimit
+  views-long =
+      ap length (a .views-are) ∙ length-pad stateLimit (map seen (a .positions)) (omega (arith, length-map (a .positions) seen, a .is-model .few))
 
   pub held : R .roles ≤ roleLimit → Held R (take n states) n starting following counting
   unfolding pad

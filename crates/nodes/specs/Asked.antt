@@ -18,17 +18,18 @@ use Rattle.meaning.specs.Marks.{isMarked}
 use Rattle.meaning.specs.Promise.{Answer}
 use Rattle.position.specs.Meaning.{nodesOf}
 use Rattle.position.specs.Position.{still, rulesOf}
+use Rattle.model.specs.Views.{viewsOf}
 use Rattle.model.specs.Answers.{Accepts}
 
 -- The bytes were read as a sheet, and the tables hold the model of its game, as it was accepted; the positions are the first n states.
-pub record Asked (s : List ℕ) (y : Layout) (n : ℕ) (states starting following counting : List ℕ) : Type 0 where
+pub record Asked (s : List ℕ) (y : Layout) (n : ℕ) (states views starting following counting : List ℕ) : Type 0 where
   pub sheet : readSheet s ≡ Accepted y
   pub moves : ℕ
-  pub model : Accepts (rulesOf (sheetIn s y)) stateLimit moveLimit n moves states starting following counting
+  pub model : Accepts (rulesOf (sheetIn s y)) (viewsOf (sheetIn s y)) stateLimit moveLimit n moves states starting following counting views
 
--- The same, with the views of each position in a table.
+-- The same, with the views of each position read off their table.
 pub record Ready (s : List ℕ) (y : Layout) (n : ℕ) (states views starting following counting : List ℕ) : Type 0 where
-  pub asked : Asked s y n states starting following counting
+  pub asked : Asked s y n states views starting following counting
   pub views-long : n ≤ length views
   pub views-are : (i : ℕ) → i < n → getD views i 0 ≡ viewsAt (sheetIn s y .rules) (getD states i 0) (masksOf (sheetIn s y .rules))
 

@@ -8,15 +8,15 @@ ghost use Rattle.tables.specs.Pad.{pad};
 ghost use Rattle.sheet.specs.Data.{nodeAt, rulesEnd};
 ghost use Rattle.sheet.specs.Question.{questionOf};
 ghost use Rattle.sheet.specs.Reading.{sheetIn};
-ghost use Rattle.views.specs.Sheet.{masksOf, viewsAt};
 ghost use Rattle.meaning.specs.Reference.{answer};
 ghost use Rattle.position.specs.Meaning.{nodesOf};
 ghost use Rattle.position.specs.Position.{says, rulesOf};
-ghost use Rattle.radix.specs.Classes.{filled};
+ghost use Rattle.incoming.specs.Owners.{Incoming};
 ghost use Rattle.marks.specs.Noted.{noted};
 ghost use Rattle.nodes.specs.Asked.{Asked, Ready, lookHeld, marksTo, Answered};
 ghost use Rattle.nodes.specs.Goal.{goalOf, reachOf};
 use facts::FactSet;
+use incoming::build_incoming;
 use marking::bit;
 use marks::mark;
 use marks::mark_and;
@@ -31,7 +31,6 @@ use sheet::Layout;
 use sheet::question::Future;
 use sheet::question::Question;
 use sheet::question::question_at;
-use views::views_of;
 
 // The goal of a last node that is EVENTUALLY: its coalition and its operand.
 pub enum Goal {
@@ -40,31 +39,6 @@ pub enum Goal {
 }
 
 // ---- plain tests
-
-// The views of position i.
-fn views_at(s: &[u8], y: Layout, masks: &[u64; 64], states: &[u64], i: usize) -> u64
-    requires { ⌜ (rulesEnd (now s) (y .top) (y .rules) ≤ length (now s)) × (length (now masks) ≡ 64) × (i < length (now states)) ⌝ }
-    ensures { λ r. ⌜ r ≡ viewsAt (sheetIn (now (s .entry)) y .rules) (getD (now (states .entry)) i 0) (now (masks .entry)) ⌝ }
-{
-    let top = y.top;
-    let rules = y.rules;
-    let x = states[i];
-    let facts = FactSet { bits: x };
-    views_of(s, top, rules, facts, masks).number()
-}
-
-// The views of each of the first n positions, worked out once.
-fn fill_views(s: &[u8], y: Layout, masks: &[u64; 64], n: usize, states: &[u64], views: &mut [u64])
-    requires { ⌜ (rulesEnd (now s) (y .top) (y .rules) ≤ length (now s)) × (length (now masks) ≡ 64) × (n ≤ length (now states)) × (n ≤ length (now views)) ⌝ }
-    ensures { λ _. ⌜ now (views .exit) ≡ filled (λ i. viewsAt (sheetIn (now (s .entry)) y .rules) (getD (now (states .entry)) i 0) (now (masks .entry))) (now (views .entry)) n ⌝ }
-{
-    let mut i: usize = 0;
-    while i < n {
-        let v = views_at(s, y, masks, states, i);
-        views[i] = v;
-        i += 1;
-    }
-}
 
 // What a plain test says of position i.
 fn test(s: &[u8], y: Layout, states: &[u64], views: &[u64], q: Question, i: usize) -> bool
@@ -126,10 +100,13 @@ fn mark_node(
     starts: &[u16],
     successors: &[u16],
     counts: &[u16],
+    froms: &[u16],
+    owners: &[u16],
     k: u8,
     marks: &mut [u64],
 )
-    requires { ⌜ Ready (now s) y n (now states) (now views) (now starts) (now successors) (now counts) × (k < y .nodes) × (now marks ≡ marksTo (sheetIn (now s) y) (take n (now states)) k) ⌝ }
+    requires { ⌜ Ready (now s) y n (now states) (now views) (now starts) (now successors) (now counts) × (k < y .nodes) × (now marks ≡ marksTo (sheetIn (now s) y) (take n (now states)) k)
+        × Incoming n (now starts) (now successors) (now froms) (now owners) ⌝ }
     ensures { λ _. ⌜ now (marks .exit) ≡ marksTo (sheetIn (now (s .entry)) y) (take n (now (states .entry))) (k + 1) ⌝ }
 {
     let q = asked_at(s, y, k);
@@ -137,7 +114,18 @@ fn mark_node(
         Question::Not(a) => mark_not(n, a, k, marks),
         Question::And(a, b) => mark_and(n, a, b, k, marks),
         Question::Or(a, b) => mark_or(n, a, b, k, marks),
-        Question::Can(c, f) => mark_future(n, starts, successors, counts, c, f, k, marks),
+        Question::Can(c, f) => mark_future(
+            n,
+            starts,
+            successors,
+            counts,
+            froms,
+            owners,
+            c,
+            f,
+            k,
+            marks,
+        ),
         Question::True => mark_test(s, y, n, states, views, q, k, marks),
         Question::Fact(f) => mark_test(s, y, n, states, views, q, k, marks),
         Question::View(v) => mark_test(s, y, n, states, views, q, k, marks),
@@ -158,15 +146,31 @@ fn mark_first(
     starts: &[u16],
     successors: &[u16],
     counts: &[u16],
+    froms: &[u16],
+    owners: &[u16],
     marks: &mut [u64],
 )
-    requires { ⌜ Ready (now s) y n (now states) (now views) (now starts) (now successors) (now counts) × (now marks ≡ pad stateLimit []) ⌝ }
+    requires { ⌜ Ready (now s) y n (now states) (now views) (now starts) (now successors) (now counts) × (now marks ≡ pad stateLimit [])
+        × Incoming n (now starts) (now successors) (now froms) (now owners) ⌝ }
     ensures { λ _. ⌜ now (marks .exit) ≡ marksTo (sheetIn (now (s .entry)) y) (take n (now (states .entry))) (y .nodes - 1) ⌝ }
 {
     let last = y.nodes - 1;
     let mut k: u8 = 0;
     while k < last {
-        mark_node(s, y, n, states, views, starts, successors, counts, k, marks);
+        mark_node(
+            s,
+            y,
+            n,
+            states,
+            views,
+            starts,
+            successors,
+            counts,
+            froms,
+            owners,
+            k,
+            marks,
+        );
         k += 1;
     }
 }
@@ -212,12 +216,15 @@ fn mark_end(
     starts: &[u16],
     successors: &[u16],
     counts: &[u16],
+    froms: &[u16],
+    owners: &[u16],
     marks: &mut [u64],
     rounds: &mut [u16],
     choices: &mut [u16],
 )
     requires { ⌜ Ready (now s) y n (now states) (now views) (now starts) (now successors) (now counts) × (now marks ≡ marksTo (sheetIn (now s) y) (take n (now states)) (y .nodes - 1))
-        × (now rounds ≡ pad stateLimit []) × (now choices ≡ pad stateLimit []) ⌝ }
+        × (now rounds ≡ pad stateLimit []) × (now choices ≡ pad stateLimit [])
+        × Incoming n (now starts) (now successors) (now froms) (now owners) ⌝ }
     ensures { λ _. ⌜ (now (marks .exit) ≡ marksTo (sheetIn (now (s .entry)) y) (take n (now (states .entry))) (y .nodes))
         × (now (rounds .exit) ≡ pad stateLimit (answer (rulesOf (sheetIn (now (s .entry)) y)) (nodesOf (sheetIn (now (s .entry)) y)) (take n (now (states .entry))) .rounds))
         × (now (choices .exit) ≡ pad stateLimit (answer (rulesOf (sheetIn (now (s .entry)) y)) (nodesOf (sheetIn (now (s .entry)) y)) (take n (now (states .entry))) .choices)) ⌝ }
@@ -231,6 +238,8 @@ fn mark_end(
             starts,
             successors,
             counts,
+            froms,
+            owners,
             c,
             a,
             k,
@@ -238,7 +247,20 @@ fn mark_end(
             rounds,
             choices,
         ),
-        Goal::Other => mark_node(s, y, n, states, views, starts, successors, counts, k, marks),
+        Goal::Other => mark_node(
+            s,
+            y,
+            n,
+            states,
+            views,
+            starts,
+            successors,
+            counts,
+            froms,
+            owners,
+            k,
+            marks,
+        ),
     }
 }
 
@@ -246,9 +268,9 @@ fn mark_end(
 pub fn answer(
     s: &[u8],
     y: Layout,
-    masks: &[u64; 64],
     n: usize,
     states: &[u64],
+    views: &[u64],
     starts: &[u16],
     successors: &[u16],
     counts: &[u16],
@@ -256,22 +278,37 @@ pub fn answer(
     rounds: &mut [u16],
     choices: &mut [u16],
 ) -> bool
-    requires { ⌜ Asked (now s) y n (now states) (now starts) (now successors) (now counts) × (now masks ≡ masksOf (sheetIn (now s) y .rules))
+    requires { ⌜ Asked (now s) y n (now states) (now views) (now starts) (now successors) (now counts)
         × (now marks ≡ pad stateLimit []) × (now rounds ≡ pad stateLimit []) × (now choices ≡ pad stateLimit []) ⌝ }
     ensures { λ r. ⌜ Answered (answer (rulesOf (sheetIn (now (s .entry)) y)) (nodesOf (sheetIn (now (s .entry)) y)) (take n (now (states .entry)))) r (now (marks .exit)) (now (rounds .exit)) (now (choices .exit)) ⌝ }
 {
-    let mut views = [0u64; 1024];
-    fill_views(s, y, masks, n, states, &mut views);
-    mark_first(s, y, n, states, &views, starts, successors, counts, marks);
+    let mut froms = [0u16; 1025];
+    let mut owners = [0u16; 8192];
+    build_incoming(n, starts, successors, &mut froms, &mut owners);
+    mark_first(
+        s,
+        y,
+        n,
+        states,
+        views,
+        starts,
+        successors,
+        counts,
+        &froms,
+        &owners,
+        marks,
+    );
     mark_end(
         s,
         y,
         n,
         states,
-        &views,
+        views,
         starts,
         successors,
         counts,
+        &froms,
+        &owners,
         marks,
         rounds,
         choices,

@@ -1,33 +1,93 @@
 -- The laws of the code, one a return.
-use Prim.Native.Nat.{ℕ, _≤_, _<_}
+use Prim.Native.Nat.{ℕ, _-_, _*_, _≤_, _<_}
+use native.Mathlib.Omega.{arith}
 use mathlib.Core.Path.{_≡_, sym, ap, ap₂, _∙_}
-use mathlib.Core.Bool.{Bool, cond}
+use mathlib.Core.Bool.{Bool, true, false, cond, not}
 use mathlib.Core.List.{List}
-use lib.Dec.{ltb}
+use lib.Dec.{eqb, ltb}
 use lib.ListN.{length, getD, take}
 use borrow.Author.Tests.{lt-ltb, le-ltb}
+use Rattle.sheet.specs.Limits.{mostRules}
 use Rattle.sheet.specs.Data.{Sheet}
+use Rattle.sheet.specs.Fields.{Fits}
 use Rattle.rules.specs.declared.Look.{Look}
-use Rattle.views.specs.Sheet as views
-use Rattle.views.specs.Sheet.{reachOf, maskAt}
+use Rattle.rules.specs.Rules.{legalsSet, isTerminal}
+use Rattle.views.specs.Sheet.{reachOf, maskAt, masksOf, viewsAt}
 use Rattle.views.proofs.Lists.{listed-length}
 use Rattle.choices.specs.declared.Choices.{Choices}
 use Rattle.choices.specs.Moves.{members, total, decode, four}
-use Rattle.position.specs.Position.{still, lookIn, movesOf, offers, leads}
+use Rattle.codes.specs.Codes.{jointOf, AllSound}
+use Rattle.codes.specs.Table.{width, Slots, collected}
+use Rattle.codes.proofs.Fits.{fits-sound}
+use Rattle.firing.specs.Firing.{noMoves, viewsBy, Levels}
+use Rattle.firing.proofs.Slots.{next-slots, legal-slots, terminal-slots, levels-are}
+use Rattle.firing.proofs.Views.{views-by, legals-by, terminal-by}
+use Rattle.live.specs.Live.{nextBy, Found}
+use Rattle.live.proofs.Next.{found-ready, found-next}
+use Rattle.position.specs.Position.{still, lookIn, movesOf, offers, offering, making, leads}
+use Rattle.position.proofs.Laws.{offering-is, leads-stay, leads-on}
 use Rattle.offer.specs.declared.Offer.{Offer}
-use Rattle.offer.specs.Offer.{Studied, offerOf, jointsOf, roleOf, targetOf}
+use Rattle.offer.specs.Offer.{Studied, Coded, Lives, offerOf, jointsOf, roleOf, targetOf}
+
+-- what literals are read off: facts, views, and no moves
+abbrev lookWith : ℕ → ℕ → Look
+lookWith x v = record { facts = record { bits = x }; views = record { bits = v }; moves = still }
 
 -- there are as many sets as levels
 pub masks-length : (d : Sheet) (masks moves : List ℕ) → Studied d masks moves → length masks ≡ 64
 masks-length d masks moves t = ap length (t .masks-are) ∙ listed-length (maskAt (reachOf (d .rules))) 64 1
 
-pub offer-is : (d : Sheet) (masks moves : List ℕ) → Studied d masks moves → (x : ℕ) {look : Look} {c : Choices} → look ≡ views.lookIn (d .rules) x masks still → c ≡ offers (d .rules) look moves
-    → _≡_ {A = Offer} (record { look = look; choices = c }) (offerOf d x)
-unfolding offerOf
-offer-is d masks moves t x {look} {c} p q =
-    let look-is : look ≡ lookIn (d .rules) x still = p ∙ ap (λ (m : List ℕ). views.lookIn (d .rules) x m still) (t .masks-are) in
-    let choices-are : c ≡ offers (d .rules) (lookIn (d .rules) x still) (movesOf (d .rules)) = q ∙ ap₂ (offers (d .rules)) look-is (t .moves-are) in
-    λ i. record { look = look-is i; choices = choices-are i }
+-- the live rules, found for the same facts, views and slots
+pub found-for : {code before live : List ℕ} {f g v w to end r : ℕ} → f ≡ g → v ≡ w → to ≡ end → Found code f v to before live r → Found code g w end before live r
+found-for p q e h = rw (p, q, e) at h
+
+-- What `views_by` and the two walks over LEGAL and TERMINAL give is what the position offers.
+module _ (d : Sheet) (fit : Fits d) (masks moves code ends : List ℕ) (t : Studied d masks moves) (c : Coded d masks code ends) where
+  -- the literals have their sets
+  sound : AllSound (d .rules)
+  sound = fits-sound d fit
+
+  pub levels-there : Levels code ends masks
+  levels-there = levels-are (c .compiled) (c .sized)
+
+  -- the stretches of LEGAL and of TERMINAL, with their ends as they were read
+  module _ {a b e : ℕ} (a-is : a ≡ getD ends 0 0) (b-is : b ≡ getD ends 1 0) (e-is : e ≡ getD ends 2 0) where
+    pub legal-there : Slots code a b
+    legal-there = rw (a-is, b-is) (legal-slots (c .compiled) (c .sized))
+
+    pub terminal-there : Slots code b e
+    terminal-there = rw (b-is, e-is) (terminal-slots (c .compiled) (c .sized))
+
+    pub offer-is : (x : ℕ) {v legals over : ℕ} {o : Choices} → v ≡ viewsBy code ends x → legals ≡ collected false code x v noMoves a (b - a) 0
+        → over ≡ collected false code x v noMoves b (e - b) 0 → o ≡ offering (not (eqb over 0)) legals moves → _≡_ {A = Offer} (record { look = lookWith x v; choices = o }) (offerOf d x)
+    unfolding offerOf
+    offer-is x {v} {legals} {over} {o} p q r h =
+        let seen : v ≡ viewsAt (d .rules) x (masksOf (d .rules)) = p ∙ views-by sound (c .compiled) (masks-length d masks moves t) x ∙ ap (viewsAt (d .rules) x) (t .masks-are) in
+        let look-is : lookWith x v ≡ lookIn (d .rules) x still = ap (lookWith x) seen in
+        let over-is : not (eqb over 0) ≡ isTerminal (d .rules) (lookWith x v) =
+        ap (λ (y : ℕ). not (eqb y 0)) (r ∙ ap₂ (λ (f t : ℕ). collected false code x v noMoves f (t - f) 0) b-is e-is) ∙ terminal-by sound (c .compiled) (lookWith x v) in
+        let legals-are : legals ≡ legalsSet (d .rules) (lookWith x v) =
+        q ∙ ap₂ (λ (f t : ℕ). collected false code x v noMoves f (t - f) 0) a-is b-is ∙ legals-by sound (c .compiled) (lookWith x v) in
+        let choices-are : o ≡ offers (d .rules) (lookIn (d .rules) x still) (movesOf (d .rules)) =
+        h ∙ offering-is (d .rules) (lookWith x v) moves over-is legals-are ∙ ap₂ (offers (d .rules)) look-is (t .moves-are) in
+        λ i. record { look = look-is i; choices = choices-are i }
+
+-- The codes of the NEXT rules.
+module _ {d : Sheet} {masks code ends : List ℕ} (c : Coded d masks code ends) where
+  -- what finding the live rules asks, with room for all rules of a sheet
+  pub live-asks : {n : ℕ} → mostRules ≤ n → (0 < length ends) × (width * getD ends 0 0 ≤ length code) × (getD ends 0 0 ≤ n) × (getD ends 0 0 ≤ mostRules)
+  live-asks room =
+      let inside = next-slots (c .compiled) (c .sized) .inside in
+      let few : getD ends 0 0 ≤ mostRules = omega (arith, c .sized .code-long) in
+      (omega (arith, c .sized .ends-long), inside, omega arith, few)
+
+  -- those that are found serve every joint move
+  pub lives-are : Fits d → (o : Offer) {before live : List ℕ} {r : ℕ} → mostRules ≤ length before
+      → Found code (o .look .facts .bits) (o .look .views .bits) (getD ends 0 0) before live r → Lives d o code live r
+  lives-are fit o room f = record {
+    ready = found-ready f (next-slots (c .compiled) (c .sized)) (live-asks room .2);
+    next = λ m. found-next (fits-sound d fit) (c .compiled .next) (making (o .look) m) f;
+  }
 
 module _ (o : Offer) where
   pub joints-are : {n : ℕ} (r roles : ℕ) → r ≡ roles → n ≡ total (take r (o .choices .sets)) → n ≡ jointsOf o roles
@@ -47,8 +107,15 @@ module _ (o : Offer) where
   unfolding jointsOf
   below-total r roles j e h = rw e h
 
-  pub target-is : (d : Sheet) (r j : ℕ) {t : ℕ} {m : List ℕ} → r ≡ d .sizes .roles → m ≡ four (decode (take r (o .choices .sets)) j) → t ≡ leads (d .rules) (o .look) (o .choices .terminal) m
-      → t ≡ targetOf d o j
+  -- at the end of a game it stays
+  pub target-stays : (d : Sheet) (j : ℕ) → o .choices .terminal ≡ true → {t : ℕ} → t ≡ o .look .facts .bits → t ≡ targetOf d o j
   unfolding targetOf
-  target-is d r j e f g =
-      g ∙ ap (leads (d .rules) (o .look) (o .choices .terminal)) (f ∙ ap (λ (k : ℕ). four (decode (take k (o .choices .sets)) j)) e)
+  target-stays d j h e = e ∙ leads-stay (d .rules) (o .look) (four (decode (take (d .sizes .roles) (o .choices .sets)) j)) (o .choices .terminal) h
+
+  -- else it goes by the live rules
+  pub target-goes : (d : Sheet) (r j : ℕ) {t count joint : ℕ} {m code live : List ℕ} → o .choices .terminal ≡ false → r ≡ d .sizes .roles → m ≡ four (decode (take r (o .choices .sets)) j)
+      → Lives d o code live count → joint ≡ jointOf m → t ≡ nextBy code joint (take count live) → t ≡ targetOf d o j
+  unfolding targetOf
+  target-goes d r j {t} {count} {joint} {m} {code} {live} h e f l g k =
+      leads-on (d .rules) (o .look) m (o .choices .terminal) t h (k ∙ ap (λ (y : ℕ). nextBy code y (take count live)) g ∙ l .next m)
+      ∙ ap (leads (d .rules) (o .look) (o .choices .terminal)) (f ∙ ap (λ (n : ℕ). four (decode (take n (o .choices .sets)) j)) e)

@@ -11,7 +11,11 @@ use Rattle.sheet.specs.Reading.{sheetIn}
 use Rattle.sheet.specs.declared.Layout.{Layout}
 use Rattle.views.specs.Sheet.{masksOf}
 use Rattle.choices.specs.Moves.{members, total, decode, four}
-use Rattle.position.specs.Position.{still, lookIn, movesOf, offers, leads}
+use Rattle.rules.specs.Rules.{nextFacts}
+use Rattle.codes.specs.Codes.{jointOf}
+use Rattle.codes.specs.Table.{Compiled, Sized}
+use Rattle.live.specs.Live.{nextBy, Ready}
+use Rattle.position.specs.Position.{still, lookIn, movesOf, offers, making, leads}
 use Rattle.offer.specs.declared.Offer.{Offer}
 
 -- The most roles that a sheet may have.
@@ -27,6 +31,16 @@ pub record Whole (s : List ℕ) (y : Layout) : Type 0 where
 pub record Studied (d : Sheet) (masks moves : List ℕ) : Type 0 where
   pub masks-are : masks ≡ masksOf (d .rules)
   pub moves-are : moves ≡ movesOf (d .rules)
+
+-- The codes are those of the sheet's rules, in tables of their lengths.
+pub record Coded (d : Sheet) (masks code ends : List ℕ) : Type 0 where
+  pub compiled : Compiled (d .rules) masks code ends
+  pub sized : Sized code ends
+
+-- The live rules that were found serve every joint move of the position.
+pub record Lives (d : Sheet) (o : Offer) (code live : List ℕ) (count : ℕ) : Type 0 where
+  pub ready : Ready code live count
+  pub next : (m : List ℕ) → nextBy code (jointOf m) (take count live) ≡ nextFacts (d .rules) (making (o .look) m)
 
 -- What position x offers.
 unfoldable pub offerOf : Sheet → ℕ → Offer

@@ -1,6 +1,6 @@
 -- The laws of what a position offers and of where it leads, one a return of the code.
 use Prim.Native.Nat.{ℕ, _*_, _/_, _%_, _^_}
-use mathlib.Core.Path.{_≡_, sym, ap, _∙_}
+use mathlib.Core.Path.{_≡_, refl, sym, ap, ap₂, _∙_}
 use mathlib.Core.Bool.{Bool, true, false}
 use mathlib.Core.List.{List, [], _∷_}
 use lib.ListN.{getD}
@@ -10,22 +10,31 @@ use Rattle.rules.specs.declared.Look.{Look}
 use Rattle.rules.specs.Rules.{legalsSet, legalsOf, isTerminal, nextFacts}
 use Rattle.choices.specs.declared.Choices.{Choices}
 use Rattle.position.specs.Choices.{choices}
-use Rattle.position.specs.Position.{setOf, offers, making, leads, says}
+use Rattle.position.specs.Position.{setFrom, setsIf, offers, offering, making, leads, says}
 
-module _ (rs : List Rule) (k : Look) (moves : List ℕ) where
-  pub offers-end : isTerminal rs k ≡ true → _≡_ {A = Choices} (record { sets = 1 ∷ 1 ∷ 1 ∷ 1 ∷ []; terminal = true }) (offers rs k moves)
-  unfolding offers
-  offers-end e = simp e
+module _ (legals : ℕ) (moves : List ℕ) where
+  pub offering-end : {t : Bool} → t ≡ true → _≡_ {A = Choices} (record { sets = 1 ∷ 1 ∷ 1 ∷ 1 ∷ []; terminal = true }) (offering t legals moves)
+  unfolding offering
+  offering-end e = simp e
 
   -- one role's set
-  pub set-is : (x p c role : ℕ) → x ≡ legalsSet rs k → p ≡ x / 2 ^ (16 * role) % 2 ^ 16 → c ≡ choices p (getD moves role 0) → c ≡ setOf rs k moves role
-  unfolding legalsOf
-  set-is x p c role e f g = g ∙ ap (λ (l : ℕ). choices l (getD moves role 0)) (f ∙ ap (λ (y : ℕ). y / 2 ^ (16 * role) % 2 ^ 16) e)
+  pub set-from : (p c role : ℕ) → p ≡ legals / 2 ^ (16 * role) % 2 ^ 16 → c ≡ choices p (getD moves role 0) → c ≡ setFrom legals moves role
+  set-from p c role f g = g ∙ ap (λ (l : ℕ). choices l (getD moves role 0)) f
 
-  pub offers-on : (a b c d : ℕ) → isTerminal rs k ≡ false → a ≡ setOf rs k moves 0 → b ≡ setOf rs k moves 1 → c ≡ setOf rs k moves 2 → d ≡ setOf rs k moves 3
-      → _≡_ {A = Choices} (record { sets = a ∷ b ∷ c ∷ d ∷ []; terminal = false }) (offers rs k moves)
-  unfolding offers
-  offers-on a b c d e f g h i = simp (e, f, g, h, i)
+  pub offering-on : {t : Bool} (a b c d : ℕ) → t ≡ false → a ≡ setFrom legals moves 0 → b ≡ setFrom legals moves 1 → c ≡ setFrom legals moves 2 → d ≡ setFrom legals moves 3
+      → _≡_ {A = Choices} (record { sets = a ∷ b ∷ c ∷ d ∷ []; terminal = false }) (offering t legals moves)
+  unfolding offering
+  offering-on a b c d e f g h i = simp (e, f, g, h, i)
+
+module _ (rs : List Rule) (k : Look) (moves : List ℕ) where
+  -- what is made of the end and of the legal moves is what the position offers
+  pub offering-is : {t : Bool} {x : ℕ} → t ≡ isTerminal rs k → x ≡ legalsSet rs k → offering t x moves ≡ offers rs k moves
+  unfolding offers offering legalsOf
+  offering-is e f = ap₂ (λ (b : Bool) (y : ℕ). offering b y moves) e f ∙ go (isTerminal rs k)
+    where
+      go : (b : Bool) → offering b (legalsSet rs k) moves ≡ record { sets = setsIf b rs k moves; terminal = b }
+      go true = refl
+      go false = refl
 
   pub leads-stay : (t : Bool) → t ≡ true → k .facts .bits ≡ leads rs k t moves
   unfolding leads

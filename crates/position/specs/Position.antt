@@ -1,9 +1,10 @@
 -- One position, computed: what it offers, where its joint moves lead, what the plain tests say; and the game of a sheet.
-use Prim.Native.Nat.{ℕ}
+use Prim.Native.Nat.{ℕ, _*_, _/_, _%_, _^_}
 use mathlib.Core.Bool.{Bool, true, false, cond}
 use mathlib.Core.List.{List, [], _∷_}
 use lib.ListN.{getD}
 use Rattle.facts.specs.Bits.{has}
+use Rattle.sheet.specs.Limits.{mostMoves}
 use Rattle.sheet.specs.Data.{Sheet, Rule}
 use Rattle.sheet.specs.declared.question.Question.{Question}
 use Rattle.sheet.specs.declared.question.Question.the-variants as question
@@ -41,6 +42,14 @@ setsIf false rs k moves = setOf rs k moves 0 ∷ setOf rs k moves 1 ∷ setOf rs
 -- what a position offers
 unfoldable pub offers : List Rule → Look → List ℕ → Choices
 offers rs k moves = record { sets = setsIf (isTerminal rs k) rs k moves; terminal = isTerminal rs k }
+
+-- the same, from whether it is the end of a game and from the legal moves of all roles, sixteen bits a role
+abbrev pub setFrom : ℕ → List ℕ → ℕ → ℕ
+setFrom legals moves role = choices (legals / 2 ^ (mostMoves * role) % 2 ^ mostMoves) (getD moves role 0)
+
+unfoldable pub offering : Bool → ℕ → List ℕ → Choices
+offering true legals moves = record { sets = 1 ∷ 1 ∷ 1 ∷ 1 ∷ []; terminal = true }
+offering false legals moves = record { sets = setFrom legals moves 0 ∷ setFrom legals moves 1 ∷ setFrom legals moves 2 ∷ setFrom legals moves 3 ∷ []; terminal = false }
 
 -- the same position, with other moves
 abbrev pub making : Look → List ℕ → Look

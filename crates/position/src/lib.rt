@@ -1,4 +1,4 @@
-// One position of the game: what it offers, where its joint moves lead, what the plain tests say of it.
+// One position of the game: what it offers, and what the plain tests say of it.
 ghost use mathlib.Core.Path.{_≡_};
 ghost use Prim.Native.Nat.{_*_, _/_, _%_, _^_, _<_, _≤_};
 ghost use lib.ListN.{length};
@@ -6,7 +6,7 @@ ghost use Rattle.facts.specs.Bits.{has};
 ghost use Rattle.sheet.specs.Data.{rulesFrom, rulesEnd};
 ghost use Rattle.rules.specs.Rules.{legalSet};
 ghost use Rattle.position.specs.Choices.{choices};
-ghost use Rattle.position.specs.Position.{movesOf, offers, leads, says};
+ghost use Rattle.position.specs.Position.{movesOf, offering, says};
 use choices::Choices;
 use choices::Moves;
 use facts::FactSet;
@@ -15,8 +15,6 @@ use rules::Look;
 use rules::gather;
 use rules::is_goal;
 use rules::is_terminal;
-use rules::legals_set;
-use rules::next_facts;
 use rules::role_moves;
 use sheet::question::Question;
 
@@ -47,51 +45,25 @@ pub fn part_of(x: u64, role: u64) -> u16
     ((x >> (16 * role)) % 65536) as u16
 }
 
-// What a position offers; `moves` has each role's moves. At the end of a game each role has one move, and the game stays.
-pub fn choices_at(s: &[u8], first: usize, n: usize, k: Look, moves: [u16; 4]) -> Choices
-    requires { ⌜ rulesEnd (now s) first n ≤ length (now s) ⌝ }
-    ensures { λ r. ⌜ r ≡ offers (rulesFrom (now (s .entry)) first n) k moves ⌝ }
+// What a position offers, from whether it is the end of a game and from the legal moves of all roles; `moves` has each role's moves.
+// At the end of a game each role has one move, and the game stays.
+pub fn choices_from(terminal: bool, legals: u64, moves: [u16; 4]) -> Choices
+    ensures { λ r. ⌜ r ≡ offering terminal legals moves ⌝ }
 {
-    if is_terminal(s, first, n, k) {
+    if terminal {
         return Choices {
             sets: [1; 4],
             terminal: true,
         };
     }
-    let x = legals_set(s, first, n, k);
-    let a = choices_of(part_of(x, 0), moves[0]);
-    let b = choices_of(part_of(x, 1), moves[1]);
-    let c = choices_of(part_of(x, 2), moves[2]);
-    let d = choices_of(part_of(x, 3), moves[3]);
+    let a = choices_of(part_of(legals, 0), moves[0]);
+    let b = choices_of(part_of(legals, 1), moves[1]);
+    let c = choices_of(part_of(legals, 2), moves[2]);
+    let d = choices_of(part_of(legals, 3), moves[3]);
     Choices {
         sets: [a, b, c, d],
         terminal: false,
     }
-}
-
-// Where a position goes by a joint move: a terminal one stays.
-pub fn successor(
-    s: &[u8],
-    first: usize,
-    n: usize,
-    k: Look,
-    terminal: bool,
-    moves: [u16; 4],
-) -> FactSet
-    requires { ⌜ rulesEnd (now s) first n ≤ length (now s) ⌝ }
-    ensures { λ r. ⌜ r .bits ≡ leads (rulesFrom (now (s .entry)) first n) k terminal moves ⌝ }
-{
-    let facts = k.facts;
-    let views = k.views;
-    if terminal {
-        return facts;
-    }
-    let look = Look {
-        facts,
-        views,
-        moves,
-    };
-    next_facts(s, first, n, look)
 }
 
 // Is the move LEGAL for the role, by the rules alone?

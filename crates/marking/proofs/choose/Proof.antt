@@ -2,7 +2,7 @@
 use borrow.Author.Needs.{needs}
 use native.Mathlib.Omega.{arith}
 use Rattle.marking.specs.Table.{inTables}
-use Rattle.marking.proofs.Sweeping.{choice-goal, choice-none, choice-some}
+use Rattle.marking.proofs.Trying.{choice-goal, choice-none, choice-some}
 use Rattle.marking.proofs.choose.Statement.{statement}
 use Rattle.marking.proofs.choose.Tie as tie
 

@@ -1,108 +1,55 @@
--- `marking::count_rounds`: r sweeps are done.
+-- `marking::count_rounds`: the positions of count 0 are lined up, and walked from.
 use borrow.Author.Needs.{needs}
-use mathlib.Core.Path.{_≡_, refl, sym, ap, _∙_}
-use Prim.Native.Nat.{_≤_, _-_}
-use lib.ListN.{length}
-use borrow.Author.Tests.{not-true}
-use Rattle.atl.specs.Marking.{swept}
-use Rattle.marking.specs.Table.{inTables, side}
-use Rattle.marking.specs.Rule.{bits, permits, rule}
-use Rattle.marking.proofs.Rounds.{count-length, count-counts, count-more, count-still, count-all, count-none}
+use native.Mathlib.Omega.{arith}
+use Prim.Native.Nat.{ℕ}
+use lib.ListN.{length-replicate}
+use Rattle.incoming.proofs.Build.{zeros-replicate}
 use Rattle.marking.proofs.count_rounds.Statement.{statement}
 use Rattle.marking.proofs.count_rounds.Tie as tie
 
-abbrev Inv-loop : tie.InvT-loop
-Inv-loop n starts successors classes marks want bound ka kb rounds₀ flags₀ r₀ rounds flags r =
-    (r ≤ n) × (rounds ≡ swept n (rule (inTables n starts successors classes) want (permits bound marks ka)) (side want (bits marks kb)) r) ×
-    (length flags ≡ length flags₀)
-
-abbrev μ-loop : tie.MeasureT-loop
-μ-loop n starts successors classes marks want bound ka kb rounds₀ flags₀ r₀ rounds flags r = n - r
-
-begin-requires : tie.Need-begin-requires Inv-loop μ-loop
+begin-requires : tie.Need-begin-requires
 begin-requires c κs = search needs
 
-loop-holds : tie.Need-loop-holds Inv-loop μ-loop
-loop-holds c =
-    let pre = c .before .before .before .before .before .before .before .before .before .before .pre in
-    (search needs, count-none (pre .0) (pre .4) _ _ _ _ (c .before .before .begin .ensures), refl)
+slice-aggregate-enqueue : tie.Need-slice-aggregate-enqueue
+slice-aggregate-enqueue c = search needs
 
-wide-requires : tie.Need-wide-requires Inv-loop μ-loop
-wide-requires c κs = search needs
+enqueue-requires : tie.Need-enqueue-requires
+enqueue-requires c κs =
+    let pre = c .before .before .before .before .before .before .before .before .before .before .before .before .before .before .pre in
+    (search needs, omega (arith, pre .5, length-replicate {A = ℕ} 1024 0), pre .5)
 
-sweep-requires : tie.Need-sweep-requires Inv-loop μ-loop
-sweep-requires c κs =
-    let pre = c .before .before .before .before .before .before .before .before .before .before .before .before .before .before .before .pre in
-    let loop = c .before .before .before .before .loop in (
-      pre .0,
-      count-length (pre .0) (pre .4) _ _ _ _ _ (loop .inv .1),
-      pre .2,
-      search needs,
-      search needs,
-      count-counts (pre .0) (pre .4) _ _ _ _ _
-          (loop .inv .1) (search needs),
-    )
+slice-aggregate-walk-rounds : tie.Need-slice-aggregate-walk-rounds
+slice-aggregate-walk-rounds c = search needs
 
-same-length : tie.Need-same-length Inv-loop μ-loop
-same-length c =
-    let sweep = c .before .before .before .before .before .sweep in
-    let pre = c .before .before .before .before .before .before .before .before .before .before .before .before .before .before .before .before .before .before .before .before .before .pre in
-    let loop = c .before .before .before .before .before .before .before .before .before .before .loop in
-    let e = sweep .ensures .1 (not-true _ (c .if2 .taken)) in ap length e ∙ count-length (pre .0) (pre .4) _ _ _ _ _ (loop .inv .1) ∙ sym (pre .1)
+slice-aggregate-walk-rounds-2 : tie.Need-slice-aggregate-walk-rounds-2
+slice-aggregate-walk-rounds-2 c = search needs
 
-same-length-2 : tie.Need-same-length-2 Inv-loop μ-loop
+walk-rounds-requires : tie.Need-walk-rounds-requires
+walk-rounds-requires c κs =
+    let pre = c .before .before .before .before .before .before .before .before .before .before .before .before .before .before .before .before .before .before .before .before .pre in
+    let enqueue = c .before .before .before .before .before .enqueue in
+    let begin = c .before .before .before .before .before .before .before .before .before .before .begin in
+    (pre .0, pre .1, pre .3, pre .4, pre .5, search needs, omega (arith, pre .5, length-replicate {A = ℕ} 1024 0), zeros-replicate 1024, enqueue .ensures, begin .ensures)
+
+same-length : tie.Need-same-length
+same-length c = search needs
+
+same-length-2 : tie.Need-same-length-2
 same-length-2 c = search needs
 
-returns : tie.Need-returns Inv-loop μ-loop
-returns c =
-    let pre = c .before .before .before .before .before .before .before .before .before .before .before .before .before .before .before .before .before .before .before .before .before .pre in
-    let loop = c .before .before .before .before .before .before .before .before .before .before .loop in
-    let sweep = c .before .before .before .before .before .sweep in
-    count-still (pre .0) (pre .4) _ _ _ _ _ (loop .inv .1) (search needs) _ (sweep .ensures .0) (sweep .ensures .1 (not-true _ (c .if2 .taken)))
-
-add-r : tie.Need-add-r Inv-loop μ-loop
-add-r c = search needs
-
-loop-less : tie.Need-loop-less Inv-loop μ-loop
-loop-less c = search needs
-
-loop-again : tie.Need-loop-again Inv-loop μ-loop
-loop-again c =
-    let pre = c .before .before .before .before .before .before .before .before .before .before .before .before .before .before .before .before .before .before .before .before .before .pre in
-    let loop = c .before .before .before .before .before .before .before .before .before .before .loop in
-    let sweep = c .before .before .before .before .before .sweep in
-    (search needs, count-more (pre .0) (pre .4) _ _ _ _ _ (loop .inv .1) (search needs) _ (sweep .ensures .0), search needs)
-
-same-length-3 : tie.Need-same-length-3 Inv-loop μ-loop
-same-length-3 c =
-    let pre = c .before .before .before .before .before .before .before .before .before .before .before .before .before .pre in
-    count-length (pre .0) (pre .4) _ _ _ _ _ (c .before .before .loop .inv .1) ∙ sym (pre .1)
-
-same-length-4 : tie.Need-same-length-4 Inv-loop μ-loop
-same-length-4 c = c .before .before .loop .inv .2
-
-returns-2 : tie.Need-returns-2 Inv-loop μ-loop
-returns-2 c =
-    let pre = c .before .before .before .before .before .before .before .before .before .before .before .before .before .pre in
-    let loop = c .before .before .loop in
-    count-all (pre .0) (pre .4) _ _ _ _ _ (loop .inv .1) (loop .inv .0) _ (c .before .wide .ensures) (search needs)
+returns : tie.Need-returns
+returns c = search needs
 
 pub count-rounds-spec : {M : Type 1} → statement M
 count-rounds-spec =
     tie.close
     (tie.spec
-    Inv-loop
-    μ-loop
     begin-requires
-    loop-holds
-    wide-requires
-    sweep-requires
+    slice-aggregate-enqueue
+    enqueue-requires
+    slice-aggregate-walk-rounds
+    slice-aggregate-walk-rounds-2
+    walk-rounds-requires
     same-length
     same-length-2
-    returns
-    add-r
-    loop-less
-    loop-again
-    same-length-3
-    same-length-4
-    returns-2)
+    returns)

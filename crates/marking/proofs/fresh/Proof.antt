@@ -1,5 +1,5 @@
 -- `marking::fresh`: by cases on the mark and the side.
-use Rattle.marking.proofs.Sweeping.{fresh-in, fresh-lost, fresh-out, fresh-kept}
+use Rattle.marking.proofs.Trying.{fresh-in, fresh-lost, fresh-out, fresh-kept}
 use borrow.Author.Needs.{needs}
 use Rattle.marking.proofs.fresh.Statement.{statement}
 use Rattle.marking.proofs.fresh.Tie as tie

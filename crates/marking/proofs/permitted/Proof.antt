@@ -1,5 +1,5 @@
 -- `marking::permitted`: by cases on `bound`.
-use Rattle.marking.proofs.Sweeping.{permits-bound}
+use Rattle.marking.proofs.Trying.{permits-bound}
 use borrow.Author.Needs.{needs}
 use Rattle.marking.proofs.permitted.Statement.{statement}
 use Rattle.marking.proofs.permitted.Tie as tie

@@ -1,10 +1,9 @@
 -- `marking::step`: the position keeps its count, takes none, or takes r + 1, as `recount` says.
 use borrow.Author.Needs.{needs}
-use mathlib.Core.Path.{refl}
 use borrow.Author.Tests.{not-true, not-false}
 use Rattle.marking.specs.Table.{inTables}
 use Rattle.marking.specs.Rule.{permits}
-use Rattle.marking.proofs.Sweeping.{step-old, step-barred, step-fails, step-new, true-not-false}
+use Rattle.marking.proofs.Trying.{step-old, step-barred, step-fails, step-new}
 use Rattle.marking.proofs.step.Statement.{statement}
 use Rattle.marking.proofs.step.Tie as tie
 
@@ -16,11 +15,8 @@ slice-read-if1 c = search needs
 
 returns : tie.Need-returns
 returns c =
-    let args = c .before .before .before .before .before .before .before .before .args in (
-      step-old (inTables (args .n) (args .starts .now) (args .successors .now) (args .classes .now)) (args .want)
-          (permits (args .bound) (args .marks .now) (args .k)) (args .rounds .now) (args .r) (args .i) (search needs) (c .if1 .taken),
-      λ z. refl,
-    )
+    let args = c .before .before .before .before .before .before .before .before .args in
+    step-old (inTables (args .n) (args .starts .now) (args .successors .now) (args .classes .now)) (args .want) (permits (args .bound) (args .marks .now) (args .k)) (args .rounds .now) (args .r) (args .i) (search needs) (c .if1 .taken)
 
 permitted-requires : tie.Need-permitted-requires
 permitted-requires c κs = search needs
@@ -28,14 +24,9 @@ permitted-requires c κs = search needs
 returns-2 : tie.Need-returns-2
 returns-2 c =
     let args = c .before .before .before .before .before .before .before .before .before .before .args in
-    let permitted = c .before .permitted in
     let if1 = c .before .before .if1 in
-    let pre = c .before .before .before .before .before .before .before .before .before .before .pre in (
-      step-barred (inTables (args .n) (args .starts .now) (args .successors .now) (args .classes .now)) (args .want)
-          (permits (args .bound) (args .marks .now) (args .k)) (args .rounds .now) (args .r) (args .i) (search needs) (permitted .result) (if1 .left)
-          (pre .6 (if1 .left)) (permitted .ensures) (not-true _ (c .if2 .taken)),
-      λ z. refl,
-    )
+    let pre = c .before .before .before .before .before .before .before .before .before .before .pre in
+    step-barred (inTables (args .n) (args .starts .now) (args .successors .now) (args .classes .now)) (args .want) (permits (args .bound) (args .marks .now) (args .k)) (args .rounds .now) (args .r) (args .i) (search needs) (c .before .permitted .result) (if1 .left) (pre .6 (if1 .left)) (c .before .permitted .ensures) (not-true _ (c .if2 .taken))
 
 holds-at-requires : tie.Need-holds-at-requires
 holds-at-requires c κs = search needs
@@ -52,15 +43,9 @@ returns-3 c =
     let permitted = c .before .before .before .before .before .before .before .permitted in
     let holds-at = c .before .before .before .holds-at in
     let if1 = c .before .before .before .before .before .before .before .before .if1 in
-    let pre = c .before .before .before .before .before .before .before .before .before .before .before .before .before .before .before .before .pre
-    in
-    let if2 = c .before .before .before .before .before .before .if2 in (
-      step-fails (inTables (args .n) (args .starts .now) (args .successors .now) (args .classes .now)) (args .want)
-          (permits (args .bound) (args .marks .now) (args .k)) (args .rounds .now) (args .r) (args .i) (search needs) (permitted .result)
-          (holds-at .result) (if1 .left) (pre .6 (if1 .left)) (permitted .ensures) (not-false _ (if2 .left)) (holds-at .ensures)
-          (not-true _ (c .if3 .taken)),
-      λ z. refl,
-    )
+    let pre = c .before .before .before .before .before .before .before .before .before .before .before .before .before .before .before .before .pre in
+    let if2 = c .before .before .before .before .before .before .if2 in
+    step-fails (inTables (args .n) (args .starts .now) (args .successors .now) (args .classes .now)) (args .want) (permits (args .bound) (args .marks .now) (args .k)) (args .rounds .now) (args .r) (args .i) (search needs) (permitted .result) (holds-at .result) (if1 .left) (pre .6 (if1 .left)) (permitted .ensures) (not-false _ (if2 .left)) (holds-at .ensures) (not-true _ (c .if3 .taken))
 
 add-rounds : tie.Need-add-rounds
 add-rounds c = search needs
@@ -83,13 +68,9 @@ returns-4 c =
     let permitted = c .before .before .before .before .before .before .before .permitted in
     let holds-at = c .before .before .before .holds-at in
     let if1 = c .before .before .before .before .before .before .before .before .if1 in
-    let if2 = c .before .before .before .before .before .before .if2 in (
-      step-new (inTables (args .n) (args .starts .now) (args .successors .now) (args .classes .now)) (args .want)
-          (permits (args .bound) (args .marks .now) (args .k)) (args .rounds .now) (args .r) (args .i) (search needs) (permitted .result)
-          (holds-at .result) (if1 .left) (permitted .ensures) (not-false _ (if2 .left)) (holds-at .ensures) (not-false _ (c .if3 .left)),
-      λ z.
-          true-not-false z,
-    )
+    let pre = c .before .before .before .before .before .before .before .before .before .before .before .before .before .before .before .before .pre in
+    let if2 = c .before .before .before .before .before .before .if2 in
+    step-new (inTables (args .n) (args .starts .now) (args .successors .now) (args .classes .now)) (args .want) (permits (args .bound) (args .marks .now) (args .k)) (args .rounds .now) (args .r) (args .i) (search needs) (permitted .result) (holds-at .result) (if1 .left) (pre .6 (if1 .left)) (permitted .ensures) (not-false _ (if2 .left)) (holds-at .ensures) (not-false _ (c .if3 .left))
 
 pub step-spec : {M : Type 1} → statement M
 step-spec =

@@ -43,7 +43,7 @@ same-length c = search needs
 
 returns : tie.Need-returns
 returns c =
-    let args = c .before .before .before .before .before .before .before .before .before .before .before .args in
+    let args = c .before .before .before .before .before .before .before .before .before .before .before .before .before .args in
     let future = c .before .before .before .before .before .future in
     timed-next (inCounts (args .n) (args .starts .now) (args .successors .now) (args .counts .now) (args .mask)) (args .k) (args .marks .now) _
     (args .future) _ (future .given .1) (c .before .before .mark-next .ensures)
@@ -53,7 +53,7 @@ same-length-2 c = search needs
 
 returns-2 : tie.Need-returns-2
 returns-2 c =
-    let args = c .before .before .before .before .before .before .before .before .before .before .before .before .before .args in
+    let args = c .before .before .before .before .before .before .before .before .before .before .before .before .before .before .before .args in
     let future2 = c .before .before .before .before .before .before .before .future2 in
     timed-always (inCounts (args .n) (args .starts .now) (args .successors .now) (args .counts .now) (args .mask)) (args .k) (args .marks .now) _
     (args .future) _ (future2 .given .1) (c .before .before .before .mark-spread .ensures .1)
@@ -63,7 +63,7 @@ same-length-3 c = search needs
 
 returns-3 : tie.Need-returns-3
 returns-3 c =
-    let args = c .before .before .before .before .before .before .before .before .before .before .before .before .before .args in
+    let args = c .before .before .before .before .before .before .before .before .before .before .before .before .before .before .before .args in
     let future3 = c .before .before .before .before .before .before .before .future3 in
     timed-eventually (inCounts (args .n) (args .starts .now) (args .successors .now) (args .counts .now) (args .mask)) (args .k) (args .marks .now) _
     (args .future) _ (future3 .given .1) (c .before .before .before .mark-spread2 .ensures .1)
@@ -73,7 +73,7 @@ same-length-4 c = search needs
 
 returns-4 : tie.Need-returns-4
 returns-4 c =
-    let args = c .before .before .before .before .before .before .before .before .before .before .before .before .before .args in
+    let args = c .before .before .before .before .before .before .before .before .before .before .before .before .before .before .before .args in
     let future4 = c .before .before .before .before .before .before .before .future4 in
     timed-until (inCounts (args .n) (args .starts .now) (args .successors .now) (args .counts .now) (args .mask)) (args .k) (args .marks .now) _
     (args .future) _ _ (future4 .given .1) (c .before .before .before .mark-spread3 .ensures .1)

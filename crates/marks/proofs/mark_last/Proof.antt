@@ -25,7 +25,7 @@ same-length-3 c = search needs
 
 returns : tie.Need-returns
 returns c =
-    let args = c .before .before .before .before .before .before .before .before .before .before .before .before .before .before .before .before .before .before .args in
+    let args = c .before .before .before .before .before .before .before .before .before .before .before .before .before .before .before .before .before .before .before .before .args in
     let mark-spread = c .before .before .before .before .before .before .before .before .before .mark-spread in
     let e = counts-eventually (inCounts (args .n) (args .starts .now) (args .successors .now) (args .counts .now) (args .mask)) (args .marks .now)
     (args .a) in (

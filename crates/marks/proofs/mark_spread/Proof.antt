@@ -18,8 +18,8 @@ slice-aggregate-fill-classes c = search needs
 
 fill-classes-requires : tie.Need-fill-classes-requires
 fill-classes-requires c κs =
-    let pre = c .before .before .before .before .before .before .pre in
-    let args = c .before .before .before .before .before .before .args in
+    let pre = c .before .before .before .before .before .before .before .before .pre in
+    let args = c .before .before .before .before .before .before .before .before .args in
     classes-asks (pre .0) (args .mask) (replicate 8192 0) (length-replicate {A = ℕ} 8192 0)
 
 slice-aggregate-count-rounds : tie.Need-slice-aggregate-count-rounds
@@ -30,8 +30,8 @@ slice-relend-prefix-count-rounds c = search needs
 
 slice-aggregate-count-rounds-2 : tie.Need-slice-aggregate-count-rounds-2
 slice-aggregate-count-rounds-2 c =
-    let args = c .before .before .before .before .before .before .before .before .before .before .before .args in
-    let pre = c .before .before .before .before .before .before .before .before .before .before .before .pre in
+    let args = c .before .before .before .before .before .before .before .before .before .before .before .before .before .args in
+    let pre = c .before .before .before .before .before .before .before .before .before .before .before .before .before .pre in
     sym (length-take-le (args .n) (args .rounds .now) (pre .2))
 
 slice-aggregate-count-rounds-3 : tie.Need-slice-aggregate-count-rounds-3
@@ -39,15 +39,16 @@ slice-aggregate-count-rounds-3 c = search needs
 
 count-rounds-requires : tie.Need-count-rounds-requires
 count-rounds-requires c κs =
-    let pre = c .before .before .before .before .before .before .before .before .before .before .before .before .pre in
-    let args = c .before .before .before .before .before .before .before .before .before .before .before .before .args in
+    let pre = c .before .before .before .before .before .before .before .before .before .before .before .before .before .before .pre in
+    let args = c .before .before .before .before .before .before .before .before .before .before .before .before .before .before .args in
     let fill-classes = c .before .before .before .before .before .fill-classes in (
       tables (pre .0) (args .mask) (replicate 8192 0) (length-replicate {A = ℕ} 8192 0) _ (fill-classes .ensures),
+      pre .4,
       length-take-le (args .n)
           (args .rounds .now) (pre .2),
       pre .1,
       search needs,
-      omega (arith, pre .0 .few),
+      pre .0 .few,
     )
 
 slice-reshare-prefix-mark-counts : tie.Need-slice-reshare-prefix-mark-counts
@@ -55,15 +56,15 @@ slice-reshare-prefix-mark-counts c = search needs
 
 slice-aggregate-mark-counts : tie.Need-slice-aggregate-mark-counts
 slice-aggregate-mark-counts c =
-    let args = c .before .before .before .before .before .before .before .before .before .before .before .before .before .before .before .before .before .args in
+    let args = c .before .before .before .before .before .before .before .before .before .before .before .before .before .before .before .before .before .before .before .args in
     let count-rounds = c .before .before .before .before .count-rounds in
     sym (back-length (args .n) _ _ (args .n) (args .rounds .now) _ (count-rounds .ensures))
 
 mark-counts-requires : tie.Need-mark-counts-requires
 mark-counts-requires c κs =
-    let args = c .before .before .before .before .before .before .before .before .before .before .before .before .before .before .before .before .before .before .args in
+    let args = c .before .before .before .before .before .before .before .before .before .before .before .before .before .before .before .before .before .before .before .before .args in
     let count-rounds = c .before .before .before .before .before .count-rounds in
-    let pre = c .before .before .before .before .before .before .before .before .before .before .before .before .before .before .before .before .before .before .pre in
+    let pre = c .before .before .before .before .before .before .before .before .before .before .before .before .before .before .before .before .before .before .before .before .pre in
     let z = back-length (args .n) _ _ (args .n) (args .rounds .now) _ (count-rounds .ensures) in
     (omega arith, pre .1, omega (arith, pre .0 .few), pre .3)
 
@@ -75,8 +76,8 @@ same-length-2 c = search needs
 
 returns : tie.Need-returns
 returns c =
-    let pre = c .before .before .before .before .before .before .before .before .before .before .before .before .before .before .before .before .before .before .before .before .before .pre in
-    let args = c .before .before .before .before .before .before .before .before .before .before .before .before .before .before .before .before .before .before .before .before .before .args in
+    let pre = c .before .before .before .before .before .before .before .before .before .before .before .before .before .before .before .before .before .before .before .before .before .before .before .pre in
+    let args = c .before .before .before .before .before .before .before .before .before .before .before .before .before .before .before .before .before .before .before .before .before .before .before .args in
     let fill-classes = c .before .before .before .before .before .before .before .before .before .before .before .before .before .before .fill-classes in
     let count-rounds = c .before .before .before .before .before .before .before .before .count-rounds in
     let e = same-counts (pre .0) (args .mask) (replicate 8192 0) (length-replicate {A = ℕ} 8192 0) _ (fill-classes .ensures) (args .want)

@@ -6,57 +6,91 @@ use borrow.Author.Needs.{needs}
 use Rattle.model.proofs.enter.Statement.{statement}
 use Rattle.model.proofs.enter.Tie as tie
 
-find-requires : tie.Need-find-requires
-find-requires c κs = search needs
+seek-requires : tie.Need-seek-requires
+seek-requires c κs = search needs
 
 same-length : tie.Need-same-length
 same-length c = search needs
 
+same-length-2 : tie.Need-same-length-2
+same-length-2 c = search needs
+
+same-length-3 : tie.Need-same-length-3
+same-length-3 c = search needs
+
 returns : tie.Need-returns
 returns c =
-    let start = c .before .before .before .before in
-    entered-old _ _ _ _ (start .args .states .now) (start .pre) (c .before .find .ensures) (c .if1 .taken)
+    let at-seek = c .before in
+    let start = at-seek .before .before .before .before .before .before .before in
+    entered-old _ _ _ _ (start .args .states .now) (start .args .slots .now) (start .args .links .now) (start .pre .0) (start .pre .1) (at-seek .seek .ensures) (c .if1 .taken)
 
 mul-states : tie.Need-mul-states
 mul-states c = search needs
 
 slice-write-states : tie.Need-slice-write-states
 slice-write-states c =
-    let start = c .before .before .before .before .before in
-    omega (arith, holds-length (start .pre))
+    let start = c .before .before .before .before .before .before .before .before .before in
+    omega (arith, holds-length (start .pre .0))
 
-add-t8 : tie.Need-add-t8
-add-t8 c = search needs
+enroll-requires : tie.Need-enroll-requires
+enroll-requires c κs =
+    let start = c .before .before .before .before .before .before .before .before .before .before .before in
+    (start .pre .1 .slots-long, start .pre .1 .links-long, c .before .before .if2 .taken)
 
-same-length-2 : tie.Need-same-length-2
-same-length-2 c = search needs
+add-t14 : tie.Need-add-t14
+add-t14 c = search needs
+
+same-length-4 : tie.Need-same-length-4
+same-length-4 c = search needs
+
+same-length-5 : tie.Need-same-length-5
+same-length-5 c = search needs
+
+same-length-6 : tie.Need-same-length-6
+same-length-6 c = search needs
 
 returns-2 : tie.Need-returns-2
 returns-2 c =
-    let at-find = c .before .before in
-    let start = at-find .before .before .before in
-    entered-new _ _ _ _ (start .args .states .now) (start .pre) (at-find .find .ensures) (c .before .if1 .left) (c .if2 .taken)
+    let at-enroll = c .before .before .before .before in
+    let at-if2 = at-enroll .before .before .before in
+    let at-if1 = at-if2 .before in
+    let at-seek = at-if1 .before in
+    let start = at-seek .before .before .before .before .before .before .before in
+    entered-new _ _ _ _ (start .args .states .now) (start .args .slots .now) (start .args .links .now) (start .pre .0) (start .pre .1) (at-seek .seek .ensures) (at-if1 .if1 .left) (at-if2 .if2 .taken) (at-if2 .if2 .taken) _ _ (at-enroll .enroll .ensures .0) (at-enroll .enroll .ensures .1)
 
-same-length-3 : tie.Need-same-length-3
-same-length-3 c = search needs
+same-length-7 : tie.Need-same-length-7
+same-length-7 c = search needs
+
+same-length-8 : tie.Need-same-length-8
+same-length-8 c = search needs
+
+same-length-9 : tie.Need-same-length-9
+same-length-9 c = search needs
 
 returns-3 : tie.Need-returns-3
 returns-3 c =
-    let at-find = c .before .before in
-    let start = at-find .before .before .before in
-    entered-full _ _ _ _ (start .args .states .now) (start .pre) (at-find .find .ensures) (c .before .if1 .left) (c .if2 .left)
+    let at-seek = c .before .before in
+    let start = at-seek .before .before .before .before .before .before .before in
+    entered-full _ _ _ _ (start .args .states .now) (start .args .slots .now) (start .args .links .now) (start .pre .0) (start .pre .1) (at-seek .seek .ensures) (c .before .if1 .left) (c .if2 .left)
 
 pub enter-spec : {M : Type 1} → statement M
 enter-spec =
     tie.close
     (tie.spec
-    find-requires
+    seek-requires
     same-length
+    same-length-2
+    same-length-3
     returns
     mul-states
     slice-write-states
-    add-t8
-    same-length-2
+    enroll-requires
+    add-t14
+    same-length-4
+    same-length-5
+    same-length-6
     returns-2
-    same-length-3
+    same-length-7
+    same-length-8
+    same-length-9
     returns-3)

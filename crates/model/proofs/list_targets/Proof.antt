@@ -13,34 +13,36 @@ use Rattle.model.proofs.list_targets.Statement.{statement}
 use Rattle.model.proofs.list_targets.Tie as tie
 
 abbrev Inv-loop : tie.InvT-loop
-Inv-loop s y o m states₀ n successors₀ at count₀ j₀ states successors count j = (j ≤ m) × Going stateLimit moveLimit (take n states₀) (take at successors₀) (tabulate m (targetOf (sheetIn s y) o)) j states count successors (at + j)
+Inv-loop s y o code live lives m states₀ slots₀ links₀ n successors₀ at count₀ j₀ states slots links successors count j = (j ≤ m) × Going stateLimit moveLimit (take n states₀) (take at successors₀) (tabulate m (targetOf (sheetIn s y) o)) j states slots links count successors (at + j)
 
 abbrev μ-loop : tie.MeasureT-loop
-μ-loop s y o m states₀ n successors₀ at count₀ j₀ states successors count j = m - j
+μ-loop s y o code live lives m states₀ slots₀ links₀ n successors₀ at count₀ j₀ states slots links successors count j = m - j
 
 loop-holds : tie.Need-loop-holds Inv-loop μ-loop
 loop-holds c =
-    let start = c .before .before .before in
-    (omega arith, going-none _ (start .pre .2) (start .pre .3))
+    let start = c .before .before .before .before .before .before .before in
+    (omega arith, going-none _ (start .pre .2) (start .pre .3) (start .pre .4))
 
 target-of-requires : tie.Need-target-of-requires Inv-loop μ-loop
 target-of-requires c κs =
-    let start = c .before .before .before .before .before in
-    (start .pre .0, omega (arith, start .pre .1))
+    let start = c .before .before .before .before .before .before .before .before .before in
+    (start .pre .0, omega (arith, start .pre .1), start .pre .6)
 
 enter-requires : tie.Need-enter-requires Inv-loop μ-loop
-enter-requires c κs = holds-clean (c .before .before .before .loop .inv .1 .states-hold)
+enter-requires c κs =
+    let going = c .before .before .before .before .before .loop .inv .1 in
+    (holds-clean (going .states-hold), going .chained)
 
 enum-known-slot : tie.Need-enum-known-slot Inv-loop μ-loop
 enum-known-slot c = search needs
 
 cast-successors : tie.Need-cast-successors Inv-loop μ-loop
 cast-successors c =
-    let at-enter = c .before .before .before .before .before in
-    let at-target-of = at-enter .before .before in
+    let at-enter = c .before .before .before .before .before .before .before .before .before in
+    let at-target-of = at-enter .before .before .before .before in
     let turn = at-target-of .before in
     let head = turn .before in
-    omega (arith, going-fits _ _ (head .loop .inv .1) (at-target-of .target-of .ensures) (turn .loop-test .taken) _ _ _ _ (c .before .slot .given .1) (at-enter .enter .ensures))
+    omega (arith, going-fits _ _ (head .loop .inv .1) (at-target-of .target-of .ensures) (turn .loop-test .taken) _ _ _ _ _ _ (c .before .slot .given .1) (at-enter .enter .ensures))
 
 add-successors : tie.Need-add-successors Inv-loop μ-loop
 add-successors c = search needs
@@ -50,32 +52,48 @@ mul-successors c = search needs
 
 slice-write-successors : tie.Need-slice-write-successors Inv-loop μ-loop
 slice-write-successors c =
-    let head = c .before .before .before .before .before .before .before .before .before in
-    omega (arith, holds-length (head .loop .inv .1 .successors-hold))
+    let turn = c .before .before .before .before .before .before .before .before .before .before .before .before .before .before in
+    let head = turn .before in
+    let start = head .before .before .before .before .before .before .before .before in
+    omega (arith, holds-length (head .loop .inv .1 .successors-hold), turn .loop-test .taken, start .pre .5)
 
 enum-told : tie.Need-enum-told Inv-loop μ-loop
 enum-told c = search needs
 
 same-length : tie.Need-same-length Inv-loop μ-loop
 same-length c =
-    let at-enter = c .before .before .before .before in
-    let head = at-enter .before .before .before .before in
-    let start = head .before .before .before .before in
+    let at-enter = c .before .before .before .before .before .before .before .before in
+    let head = at-enter .before .before .before .before .before .before in
+    let start = head .before .before .before .before .before .before .before .before in
     omega (arith, at-enter .enter .kept .0, holds-length (head .loop .inv .1 .states-hold), holds-length (start .pre .2))
 
 same-length-2 : tie.Need-same-length-2 Inv-loop μ-loop
 same-length-2 c =
-    let head = c .before .before .before .before .before .before .before .before in
-    let start = head .before .before .before .before in
-    omega (arith, holds-length (head .loop .inv .1 .successors-hold), holds-length (start .pre .3))
+    let at-enter = c .before .before .before .before .before .before .before .before in
+    let head = at-enter .before .before .before .before .before .before in
+    let start = head .before .before .before .before .before .before .before .before in
+    omega (arith, at-enter .enter .kept .1 .0, head .loop .inv .1 .chained .slots-long, start .pre .3 .slots-long)
+
+same-length-3 : tie.Need-same-length-3 Inv-loop μ-loop
+same-length-3 c =
+    let at-enter = c .before .before .before .before .before .before .before .before in
+    let head = at-enter .before .before .before .before .before .before in
+    let start = head .before .before .before .before .before .before .before .before in
+    omega (arith, at-enter .enter .kept .1 .1 .0, head .loop .inv .1 .chained .links-long, start .pre .3 .links-long)
+
+same-length-4 : tie.Need-same-length-4 Inv-loop μ-loop
+same-length-4 c =
+    let head = c .before .before .before .before .before .before .before .before .before .before .before .before .before .before in
+    let start = head .before .before .before .before .before .before .before .before in
+    omega (arith, holds-length (head .loop .inv .1 .successors-hold), holds-length (start .pre .4))
 
 returns : tie.Need-returns Inv-loop μ-loop
 returns c =
-    let at-enter = c .before .before .before .before in
-    let at-target-of = at-enter .before .before in
+    let at-enter = c .before .before .before .before .before .before .before .before in
+    let at-target-of = at-enter .before .before .before .before in
     let turn = at-target-of .before in
     let head = turn .before in
-    going-over _ _ (head .loop .inv .1) (at-target-of .target-of .ensures) (turn .loop-test .taken) _ _ (c .enum-told .given .1) (at-enter .enter .ensures)
+    going-over _ _ (head .loop .inv .1) (at-target-of .target-of .ensures) (turn .loop-test .taken) _ _ _ _ (c .enum-told .given .1) (at-enter .enter .ensures)
 
 add-j : tie.Need-add-j Inv-loop μ-loop
 add-j c = search needs
@@ -85,21 +103,36 @@ loop-less c = search needs
 
 loop-again : tie.Need-loop-again Inv-loop μ-loop
 loop-again c =
-    let at-enter = c .before .before .before .before .before in
-    let at-target-of = at-enter .before .before in
+    let at-enter = c .before .before .before .before .before .before .before .before .before in
+    let at-target-of = at-enter .before .before .before .before in
     let turn = at-target-of .before in
     let head = turn .before in
-    (omega arith, going-more _ _ (head .loop .inv .1) (at-target-of .target-of .ensures) (turn .loop-test .taken) _ _ _ _ (c .before .slot .given .1) (at-enter .enter .ensures) (omega arith) _ (omega arith))
+    let start = head .before .before .before .before .before .before .before .before in
+    (omega arith, going-more _ _ (head .loop .inv .1) (at-target-of .target-of .ensures) (turn .loop-test .taken) _ _ _ _ _ _ (c .before .slot .given .1) (at-enter .enter .ensures) (omega (arith, start .pre .5)) _ (omega arith))
 
-same-length-3 : tie.Need-same-length-3 Inv-loop μ-loop
-same-length-3 c =
-    let start = c .before .before .before .before .before in
-    omega (arith, holds-length (c .before .loop .inv .1 .states-hold), holds-length (start .pre .2))
+same-length-5 : tie.Need-same-length-5 Inv-loop μ-loop
+same-length-5 c =
+    let head = c .before in
+    let start = head .before .before .before .before .before .before .before .before in
+    omega (arith, holds-length (head .loop .inv .1 .states-hold), holds-length (start .pre .2))
 
-same-length-4 : tie.Need-same-length-4 Inv-loop μ-loop
-same-length-4 c =
-    let start = c .before .before .before .before .before in
-    omega (arith, holds-length (c .before .loop .inv .1 .successors-hold), holds-length (start .pre .3))
+same-length-6 : tie.Need-same-length-6 Inv-loop μ-loop
+same-length-6 c =
+    let head = c .before in
+    let start = head .before .before .before .before .before .before .before .before in
+    omega (arith, head .loop .inv .1 .chained .slots-long, start .pre .3 .slots-long)
+
+same-length-7 : tie.Need-same-length-7 Inv-loop μ-loop
+same-length-7 c =
+    let head = c .before in
+    let start = head .before .before .before .before .before .before .before .before in
+    omega (arith, head .loop .inv .1 .chained .links-long, start .pre .3 .links-long)
+
+same-length-8 : tie.Need-same-length-8 Inv-loop μ-loop
+same-length-8 c =
+    let head = c .before in
+    let start = head .before .before .before .before .before .before .before .before in
+    omega (arith, holds-length (head .loop .inv .1 .successors-hold), holds-length (start .pre .4))
 
 returns-2 : tie.Need-returns-2 Inv-loop μ-loop
 returns-2 c = going-all _ _ (c .before .loop .inv .1) (c .loop-test .left) _ (omega arith)
@@ -121,10 +154,14 @@ list-targets-spec =
     enum-told
     same-length
     same-length-2
+    same-length-3
+    same-length-4
     returns
     add-j
     loop-less
     loop-again
-    same-length-3
-    same-length-4
+    same-length-5
+    same-length-6
+    same-length-7
+    same-length-8
     returns-2)

@@ -12,25 +12,25 @@ use Rattle.nodes.proofs.mark_first.Statement.{statement}
 use Rattle.nodes.proofs.mark_first.Tie as tie
 
 abbrev Inv-loop : tie.InvT-loop
-Inv-loop s y n states views starts successors counts marks₀ last k₀ marks k = (k ≤ y .nodes - 1) × (marks ≡ marksTo (sheetIn s y) (take n states) k)
+Inv-loop s y n states views starts successors counts froms owners marks₀ last k₀ marks k = (k ≤ y .nodes - 1) × (marks ≡ marksTo (sheetIn s y) (take n states) k)
 
 abbrev μ-loop : tie.MeasureT-loop
-μ-loop s y n states views starts successors counts marks₀ last k₀ marks k = y .nodes - 1 - k
+μ-loop s y n states views starts successors counts froms owners marks₀ last k₀ marks k = y .nodes - 1 - k
 
 sub-last : tie.Need-sub-last Inv-loop μ-loop
 sub-last c =
-    let pre = c .before .before .before .before .before .before .before .before .pre in
+    let pre = c .before .before .before .before .before .before .before .before .before .before .pre in
     let z = some-node _ _ (pre .0 .asked .sheet) in omega arith
 
 loop-holds : tie.Need-loop-holds Inv-loop μ-loop
 loop-holds c =
-    let pre = c .before .before .before .before .before .before .before .before .pre in
+    let pre = c .before .before .before .before .before .before .before .before .before .before .pre in
     (omega arith, none-yet (pre .0) _ (pre .1))
 
 mark-node-requires : tie.Need-mark-node-requires Inv-loop μ-loop
 mark-node-requires c κs =
-    let pre = c .before .before .before .before .before .before .before .before .before .before .before .pre in
-    (pre .0, omega arith, c .before .before .loop .inv .1)
+    let pre = c .before .before .before .before .before .before .before .before .before .before .before .before .before .pre in
+    (pre .0, omega arith, c .before .before .loop .inv .1, pre .2)
 
 add-k : tie.Need-add-k Inv-loop μ-loop
 add-k c = search needs
@@ -43,7 +43,7 @@ loop-again c = (omega arith, c .before .before .mark-node .ensures)
 
 same-length : tie.Need-same-length Inv-loop μ-loop
 same-length c =
-    let pre = c .before .before .before .before .before .before .before .before .before .before .pre in
+    let pre = c .before .before .before .before .before .before .before .before .before .before .before .before .pre in
     let loop = c .before .loop in
     marks-size (pre .0) (loop .k) (pre .1) (loop .inv .1)
 

@@ -1,0 +1,2 @@
+-- What the contracts of `live` cite.
+pub mod Live
