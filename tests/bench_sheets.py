@@ -1,4 +1,4 @@
-"""The benchmark sheets: six families, each at four growing sizes.  Every
+"""The benchmark sheets: seven families, each at four growing sizes.  Every
 sheet comes with the state count and joint move count it must have."""
 
 import os
@@ -63,6 +63,28 @@ def one_wide_state(width, chain):
     return join([sz(len(width), bits, 16, 16), *rules, *nodes, ED]), chain, joint + chain - 1
 
 
+def fan(width, bits):
+    """State 0 has many joint moves, which lead into a counter at half of its
+    places; so its successors have as many different round counts."""
+    started = bits
+    rules = [ru(NEXT, started), ru(NEXT, 0, 0, (NOT_TRUE, started))] + [r for r in counter_rules(bits, played=False) if r[:3] != b"RU\x02"]
+    for i in range(bits):
+        rules.append(ru(NEXT, i, 0, (NOT_TRUE, i), (IS_VIEW, i), (TRUE, started)))
+        rules.append(ru(NEXT, i, 0, (TRUE, i), (NOT_VIEW, i)))
+    place = 1
+    for role, moves in enumerate(width):
+        rules += [ru(LEGAL, role, m, *([(NOT_TRUE, started)] if m else [])) for m in range(moves)]
+        rules += name_moves(role, range(moves))
+        for b in range((moves - 1).bit_length()):
+            if place < bits:
+                rules += [ru(NEXT, place, 0, (NOT_TRUE, started), (DOES, role, m)) for m in range(moves) if m >> b & 1]
+                place += 1
+    rules.append(ru(TERMINAL, 0, 0, (IS_VIEW, bits)))
+    joint = width[0] * width[1] * width[2]
+    nodes = [fo(N_TERMINAL), fo(N_EVENTUALLY, 0, 0, 4)]
+    return join([sz(3, bits + 1, bits + 1, 16), *rules, *nodes, ED]), 2 ** bits, joint + 2 ** bits - 1
+
+
 def nested(nodes_wanted):
     """Questions inside questions over 1,024 states and 8,192 joint moves."""
     sheet, states, joint = many_joint(10)
@@ -112,6 +134,8 @@ def families():
         yield ("nested-long", nodes) + nested_long(nodes)
     for bits in (7, 8, 9, 10):
         yield ("counter", 2 ** bits, counter_sheet(bits), 2 ** bits, 2 ** bits)
+    for width, bits in (((8, 8, 8), 7), ((16, 8, 8), 8), ((16, 16, 8), 9), ((16, 16, 16), 10)):
+        yield ("fan", width[0] * width[1] * width[2]) + fan(width, bits)
 
 
 def write_all(directory):
