@@ -57,7 +57,7 @@ back-length n p b r l rs e = ap length (back n p b r l rs e) ∙ ap length e ∙
 pub begun-length : (n : ℕ) (f : ℕ → ℕ) (t l : List ℕ) → t ≡ tabulate n f → n ≤ length l → length (t ++ drop n l) ≡ length l
 begun-length n f t l e h = length-front l t n (ap length e ∙ length-tabulate n f ∙ sym (length-take-le n l h))
 
-module _ {states joints n : ℕ} {starts successors counts : List ℕ} (m : Model states joints n starts successors counts) (mask : ℕ) (l : List ℕ) (room : length l ≡ joints) where
+module _ {states joints n : ℕ} {starts successors counts : List ℕ} (m : Model states joints n starts successors counts) (mask : ℕ) (l : List ℕ) (room : joints ≤ length l) where
   -- what is asked for the classes
   pub classes-asks : Starts n starts (length l) × Counted n starts counts
   classes-asks =

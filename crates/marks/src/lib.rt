@@ -140,25 +140,17 @@ fn mark_next(
     a: u8,
     k: u8,
     marks: &mut [u64],
+    classes: &mut [u16],
+    flags: &mut [u8],
+    table: &mut [u16],
 )
-    requires { ⌜ Model positionsLimit jointsLimit n (now starts) (now successors) (now counts) × (n ≤ length (now marks)) × (k < 64) ⌝ }
+    requires { ⌜ Model positionsLimit jointsLimit n (now starts) (now successors) (now counts) × (n ≤ length (now marks)) × (k < 64)
+        × (jointsLimit ≤ length (now classes)) × (jointsLimit ≤ length (now flags)) × (positionsLimit ≤ length (now table)) ⌝ }
     ensures { λ _. ⌜ now (marks .exit) ≡ noted n k (force (inCounts n (now (starts .entry)) (now (successors .entry)) (now (counts .entry)) mask) (bits (now (marks .entry)) a)) (now (marks .entry)) ⌝ }
 {
-    let mut classes = [0u16; 8192];
-    let mut flags = [0u8; 8192];
-    let mut table = [0u16; 1024];
-    fill_classes(n, starts, counts, mask, &mut classes);
+    fill_classes(n, starts, counts, mask, classes);
     begin(n, marks, a, true, &mut table[..n]);
-    mark_forced(
-        n,
-        starts,
-        successors,
-        &classes,
-        &table,
-        k,
-        &mut flags,
-        marks,
-    );
+    mark_forced(n, starts, successors, classes, table, k, flags, marks);
 }
 
 // UNTIL (`want`, `bound`), EVENTUALLY (`want`) and ALWAYS (neither), for the coalition `mask`, of nodes `a` and `b`: the counts, and bit `k`.
@@ -177,19 +169,20 @@ fn mark_spread(
     k: u8,
     marks: &mut [u64],
     rounds: &mut [u16],
+    classes: &mut [u16],
+    flags: &mut [u8],
 )
     requires { ⌜ Model positionsLimit jointsLimit n (now starts) (now successors) (now counts) × (n ≤ length (now marks)) × (n ≤ length (now rounds)) × (k < 64)
-        × Incoming n (now starts) (now successors) (now froms) (now owners) ⌝ }
+        × Incoming n (now starts) (now successors) (now froms) (now owners)
+        × (jointsLimit ≤ length (now classes)) × (jointsLimit ≤ length (now flags)) ⌝ }
     ensures { λ _. ⌜ (now (rounds .exit) ≡ countsIn (inCounts n (now (starts .entry)) (now (successors .entry)) (now (counts .entry)) mask) want bound (now (marks .entry)) a b ++ drop n (now (rounds .entry))) × (now (marks .exit) ≡ noted n k (side want (counted (countsIn (inCounts n (now (starts .entry)) (now (successors .entry)) (now (counts .entry)) mask) want bound (now (marks .entry)) a b) n)) (now (marks .entry))) ⌝ }
 {
-    let mut classes = [0u16; 8192];
-    let mut flags = [0u8; 8192];
-    fill_classes(n, starts, counts, mask, &mut classes);
+    fill_classes(n, starts, counts, mask, classes);
     count_rounds(
         n,
         starts,
         successors,
-        &classes,
+        classes,
         froms,
         owners,
         marks,
@@ -198,7 +191,7 @@ fn mark_spread(
         a,
         b,
         &mut rounds[..n],
-        &mut flags,
+        flags,
     );
     mark_counts(n, &rounds[..n], want, k, marks);
 }
@@ -212,25 +205,26 @@ fn fill_choices(
     mask: u8,
     rounds: &[u16],
     choices: &mut [u16],
+    classes: &mut [u16],
+    flags: &mut [u8],
 )
-    requires { ⌜ Model positionsLimit jointsLimit n (now starts) (now successors) (now counts) × (n ≤ length (now rounds)) × (n ≤ length (now choices)) ⌝ }
+    requires { ⌜ Model positionsLimit jointsLimit n (now starts) (now successors) (now counts) × (n ≤ length (now rounds)) × (n ≤ length (now choices))
+        × (jointsLimit ≤ length (now classes)) × (jointsLimit ≤ length (now flags)) ⌝ }
     ensures { λ _. ⌜ now (choices .exit) ≡ planOf (inCounts n (now (starts .entry)) (now (successors .entry)) (now (counts .entry)) mask) (take n (now (rounds .entry))) ++ drop n (now (choices .entry)) ⌝ }
 {
-    let mut classes = [0u16; 8192];
-    let mut flags = [0u8; 8192];
-    fill_classes(n, starts, counts, mask, &mut classes);
+    fill_classes(n, starts, counts, mask, classes);
     plan(
         n,
         starts,
         successors,
-        &classes,
+        classes,
         &rounds[..n],
         &mut choices[..n],
-        &mut flags,
+        flags,
     );
 }
 
-// A coalition's future: bit `k`.
+// A coalition's future: bit `k`. What `classes`, `flags` and `table` hold before and after does not matter: they are room to work in.
 pub fn mark_future(
     n: usize,
     starts: &[u16],
@@ -242,14 +236,29 @@ pub fn mark_future(
     future: Future,
     k: u8,
     marks: &mut [u64],
+    classes: &mut [u16],
+    flags: &mut [u8],
+    table: &mut [u16],
 )
     requires { ⌜ Model positionsLimit jointsLimit n (now starts) (now successors) (now counts) × (n ≤ length (now marks)) × (k < 64)
-        × Incoming n (now starts) (now successors) (now froms) (now owners) ⌝ }
+        × Incoming n (now starts) (now successors) (now froms) (now owners)
+        × (jointsLimit ≤ length (now classes)) × (jointsLimit ≤ length (now flags)) × (positionsLimit ≤ length (now table)) ⌝ }
     ensures { λ _. ⌜ now (marks .exit) ≡ noted n k (marked (timed (inCounts n (now (starts .entry)) (now (successors .entry)) (now (counts .entry)) mask) (bits (now (marks .entry))) future)) (now (marks .entry)) ⌝ }
 {
-    let mut table = [0u16; 1024];
     match future {
-        Future::Next(a) => mark_next(n, starts, successors, counts, mask, a, k, marks),
+        Future::Next(a) => mark_next(
+            n,
+            starts,
+            successors,
+            counts,
+            mask,
+            a,
+            k,
+            marks,
+            classes,
+            flags,
+            table,
+        ),
         Future::Always(a) => mark_spread(
             n,
             starts,
@@ -264,7 +273,9 @@ pub fn mark_future(
             a,
             k,
             marks,
-            &mut table,
+            table,
+            classes,
+            flags,
         ),
         Future::Eventually(a) => mark_spread(
             n,
@@ -280,7 +291,9 @@ pub fn mark_future(
             a,
             k,
             marks,
-            &mut table,
+            table,
+            classes,
+            flags,
         ),
         Future::Until(a, b) => mark_spread(
             n,
@@ -296,12 +309,14 @@ pub fn mark_future(
             b,
             k,
             marks,
-            &mut table,
+            table,
+            classes,
+            flags,
         ),
     }
 }
 
-// EVENTUALLY as the last node: bit `k`, the round counts and the choices, 65,535 where there is none.
+// EVENTUALLY as the last node: bit `k`, the round counts and the choices, 65,535 where there is none. `classes` and `flags` are room to work in.
 pub fn mark_last(
     n: usize,
     starts: &[u16],
@@ -315,9 +330,12 @@ pub fn mark_last(
     marks: &mut [u64],
     rounds: &mut [u16],
     choices: &mut [u16],
+    classes: &mut [u16],
+    flags: &mut [u8],
 )
     requires { ⌜ Model positionsLimit jointsLimit n (now starts) (now successors) (now counts) × (n ≤ length (now marks)) × (n ≤ length (now rounds)) × (n ≤ length (now choices)) × (k < 64)
-        × Incoming n (now starts) (now successors) (now froms) (now owners) ⌝ }
+        × Incoming n (now starts) (now successors) (now froms) (now owners)
+        × (jointsLimit ≤ length (now classes)) × (jointsLimit ≤ length (now flags)) ⌝ }
     ensures { λ _. ⌜ (now (rounds .exit) ≡ roundsOf (inCounts n (now (starts .entry)) (now (successors .entry)) (now (counts .entry)) mask) everything (bits (now (marks .entry)) a) ++ drop n (now (rounds .entry))) × (now (choices .exit) ≡ planOf (inCounts n (now (starts .entry)) (now (successors .entry)) (now (counts .entry)) mask) (roundsOf (inCounts n (now (starts .entry)) (now (successors .entry)) (now (counts .entry)) mask) everything (bits (now (marks .entry)) a)) ++ drop n (now (choices .entry))) × (now (marks .exit) ≡ noted n k (marked (eventuallyOf (inCounts n (now (starts .entry)) (now (successors .entry)) (now (counts .entry)) mask) (bits (now (marks .entry)) a))) (now (marks .entry))) ⌝ }
 {
     mark_spread(
@@ -335,6 +353,18 @@ pub fn mark_last(
         k,
         marks,
         rounds,
+        classes,
+        flags,
     );
-    fill_choices(n, starts, successors, counts, mask, rounds, choices);
+    fill_choices(
+        n,
+        starts,
+        successors,
+        counts,
+        mask,
+        rounds,
+        choices,
+        classes,
+        flags,
+    );
 }

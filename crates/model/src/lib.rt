@@ -2,13 +2,13 @@
 ghost use mathlib.Core.Path.{_≡_};
 ghost use mathlib.Core.List.{_++_};
 ghost use Prim.Native.Nat.{_+_, _*_, _≤_, _<_};
-ghost use lib.ListN.{length, take, getD};
+ghost use lib.ListN.{length, take};
 ghost use Rattle.tables.specs.Lengths.{stateLimit, moveLimit};
 ghost use Rattle.atl.specs.Bounded.{tabulate};
 ghost use Rattle.sheet.specs.Limits.{mostRules};
 ghost use Rattle.sheet.specs.Reading.{sheetIn};
 ghost use Rattle.position.specs.Position.{rulesOf};
-ghost use Rattle.offer.specs.Offer.{roleLimit, Whole, Studied, Coded, Lives, offerOf, jointsOf, roleOf, targetOf};
+ghost use Rattle.offer.specs.Offer.{roleLimit, Whole, Studied, Coded, Lives, jointsOf, roleOf, targetOf};
 ghost use Rattle.lookup.specs.Chains.{Chained};
 ghost use Rattle.model.specs.Views.{viewsOf};
 ghost use Rattle.model.specs.Tables.{Holds, Clean, Sized, Fresh, Stage};

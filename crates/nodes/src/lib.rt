@@ -2,7 +2,7 @@
 ghost use mathlib.Core.Path.{_≡_};
 ghost use mathlib.Core.List.{[]};
 ghost use Prim.Native.Nat.{_+_, _-_, _*_, _<_, _≤_};
-ghost use lib.ListN.{length, getD, take};
+ghost use lib.ListN.{length, take};
 ghost use Rattle.tables.specs.Lengths.{stateLimit};
 ghost use Rattle.tables.specs.Pad.{pad};
 ghost use Rattle.sheet.specs.Data.{nodeAt, rulesEnd};
@@ -12,6 +12,7 @@ ghost use Rattle.meaning.specs.Reference.{answer};
 ghost use Rattle.position.specs.Meaning.{nodesOf};
 ghost use Rattle.position.specs.Position.{says, rulesOf};
 ghost use Rattle.incoming.specs.Owners.{Incoming};
+ghost use Rattle.marks.specs.Model.{positionsLimit, jointsLimit};
 ghost use Rattle.marks.specs.Noted.{noted};
 ghost use Rattle.nodes.specs.Asked.{Asked, Ready, lookHeld, marksTo, Answered};
 ghost use Rattle.nodes.specs.Goal.{goalOf, reachOf};
@@ -104,9 +105,13 @@ fn mark_node(
     owners: &[u16],
     k: u8,
     marks: &mut [u64],
+    classes: &mut [u16],
+    flags: &mut [u8],
+    table: &mut [u16],
 )
     requires { ⌜ Ready (now s) y n (now states) (now views) (now starts) (now successors) (now counts) × (k < y .nodes) × (now marks ≡ marksTo (sheetIn (now s) y) (take n (now states)) k)
-        × Incoming n (now starts) (now successors) (now froms) (now owners) ⌝ }
+        × Incoming n (now starts) (now successors) (now froms) (now owners)
+        × (jointsLimit ≤ length (now classes)) × (jointsLimit ≤ length (now flags)) × (positionsLimit ≤ length (now table)) ⌝ }
     ensures { λ _. ⌜ now (marks .exit) ≡ marksTo (sheetIn (now (s .entry)) y) (take n (now (states .entry))) (k + 1) ⌝ }
 {
     let q = asked_at(s, y, k);
@@ -125,6 +130,9 @@ fn mark_node(
             f,
             k,
             marks,
+            classes,
+            flags,
+            table,
         ),
         Question::True => mark_test(s, y, n, states, views, q, k, marks),
         Question::Fact(f) => mark_test(s, y, n, states, views, q, k, marks),
@@ -149,9 +157,13 @@ fn mark_first(
     froms: &[u16],
     owners: &[u16],
     marks: &mut [u64],
+    classes: &mut [u16],
+    flags: &mut [u8],
+    table: &mut [u16],
 )
     requires { ⌜ Ready (now s) y n (now states) (now views) (now starts) (now successors) (now counts) × (now marks ≡ pad stateLimit [])
-        × Incoming n (now starts) (now successors) (now froms) (now owners) ⌝ }
+        × Incoming n (now starts) (now successors) (now froms) (now owners)
+        × (jointsLimit ≤ length (now classes)) × (jointsLimit ≤ length (now flags)) × (positionsLimit ≤ length (now table)) ⌝ }
     ensures { λ _. ⌜ now (marks .exit) ≡ marksTo (sheetIn (now (s .entry)) y) (take n (now (states .entry))) (y .nodes - 1) ⌝ }
 {
     let last = y.nodes - 1;
@@ -170,6 +182,9 @@ fn mark_first(
             owners,
             k,
             marks,
+            classes,
+            flags,
+            table,
         );
         k += 1;
     }
@@ -221,10 +236,14 @@ fn mark_end(
     marks: &mut [u64],
     rounds: &mut [u16],
     choices: &mut [u16],
+    classes: &mut [u16],
+    flags: &mut [u8],
+    table: &mut [u16],
 )
     requires { ⌜ Ready (now s) y n (now states) (now views) (now starts) (now successors) (now counts) × (now marks ≡ marksTo (sheetIn (now s) y) (take n (now states)) (y .nodes - 1))
         × (now rounds ≡ pad stateLimit []) × (now choices ≡ pad stateLimit [])
-        × Incoming n (now starts) (now successors) (now froms) (now owners) ⌝ }
+        × Incoming n (now starts) (now successors) (now froms) (now owners)
+        × (jointsLimit ≤ length (now classes)) × (jointsLimit ≤ length (now flags)) × (positionsLimit ≤ length (now table)) ⌝ }
     ensures { λ _. ⌜ (now (marks .exit) ≡ marksTo (sheetIn (now (s .entry)) y) (take n (now (states .entry))) (y .nodes))
         × (now (rounds .exit) ≡ pad stateLimit (answer (rulesOf (sheetIn (now (s .entry)) y)) (nodesOf (sheetIn (now (s .entry)) y)) (take n (now (states .entry))) .rounds))
         × (now (choices .exit) ≡ pad stateLimit (answer (rulesOf (sheetIn (now (s .entry)) y)) (nodesOf (sheetIn (now (s .entry)) y)) (take n (now (states .entry))) .choices)) ⌝ }
@@ -246,6 +265,8 @@ fn mark_end(
             marks,
             rounds,
             choices,
+            classes,
+            flags,
         ),
         Goal::Other => mark_node(
             s,
@@ -260,11 +281,14 @@ fn mark_end(
             owners,
             k,
             marks,
+            classes,
+            flags,
+            table,
         ),
     }
 }
 
-// The question answered over a model that is in the tables: marks, rounds, choices and the verdict.
+// The question answered over a model that is in the tables: marks, rounds, choices and the verdict. The room that the marking works in stands here once.
 pub fn answer(
     s: &[u8],
     y: Layout,
@@ -285,6 +309,9 @@ pub fn answer(
     let mut froms = [0u16; 1025];
     let mut owners = [0u16; 8192];
     build_incoming(n, starts, successors, &mut froms, &mut owners);
+    let mut classes = [0u16; 8192];
+    let mut flags = [0u8; 8192];
+    let mut table = [0u16; 1024];
     mark_first(
         s,
         y,
@@ -297,6 +324,9 @@ pub fn answer(
         &froms,
         &owners,
         marks,
+        &mut classes,
+        &mut flags,
+        &mut table,
     );
     mark_end(
         s,
@@ -312,6 +342,9 @@ pub fn answer(
         marks,
         rounds,
         choices,
+        &mut classes,
+        &mut flags,
+        &mut table,
     );
     let last = y.nodes - 1;
     bit(marks, last, 0)

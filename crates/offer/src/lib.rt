@@ -3,7 +3,6 @@ ghost use mathlib.Core.Path.{_≡_};
 ghost use Prim.Native.Nat.{_*_, _<_, _≤_};
 ghost use lib.ListN.{length, getD};
 ghost use Rattle.sheet.specs.Reading.{sheetIn};
-ghost use Rattle.choices.specs.Moves.{total};
 ghost use Rattle.position.specs.Position.{rulesOf};
 ghost use Rattle.sheet.specs.Limits.{mostRules};
 ghost use Rattle.codes.specs.Table.{width};

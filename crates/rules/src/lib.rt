@@ -1,12 +1,12 @@
 // What the rules of the lent sheet give at a position: one literal, one body, one loop over the rules.
 ghost use mathlib.Core.Path.{_≡_};
 ghost use mathlib.Core.Bool.{cond, _&&_};
-ghost use Prim.Native.Nat.{_+_, _*_, _/_, _%_, _^_, _<_, _≤_};
+ghost use Prim.Native.Nat.{_+_, _*_, _<_, _≤_};
 ghost use lib.ListN.{length};
 ghost use Rattle.sheet.specs.Data.{byte, part, partAt, bodyFrom, ruleAt, rulesFrom, rulesEnd};
 ghost use Rattle.rules.specs.declared.Ask.the-variants.{Legals};
 ghost use Rattle.rules.specs.Meaning.{doing, holds};
-ghost use Rattle.rules.specs.Rules.{fires, over, memberOf, seenBy, added, gathered, doesOf, doesSet, legalSet, legalsSet, isTerminal, isGoal, nextFacts, initFacts};
+ghost use Rattle.rules.specs.Rules.{fires, over, memberOf, seenBy, added, gathered, doesOf, doesSet, isTerminal, isGoal, initFacts};
 use facts::FactSet;
 
 // What literals are read off: the facts and the views that hold, and each role's move.
@@ -207,24 +207,6 @@ pub fn gather(s: &[u8], first: usize, n: usize, q: Ask, k: Look, start: FactSet)
 
 // ---- what a position gives
 
-pub fn legal_set(s: &[u8], first: usize, n: usize, k: Look, role: u8) -> u16
-    requires { ⌜ rulesEnd (now s) first n ≤ length (now s) ⌝ }
-    ensures { λ r. ⌜ r ≡ legalSet (rulesFrom (now (s .entry)) first n) k role ⌝ }
-{
-    let empty = FactSet { bits: 0 };
-    let x = gather(s, first, n, Ask::Legal(role), k, empty);
-    x.number() as u16
-}
-
-// The legal moves of all roles in one pass, sixteen bits a role.
-pub fn legals_set(s: &[u8], first: usize, n: usize, k: Look) -> u64
-    requires { ⌜ rulesEnd (now s) first n ≤ length (now s) ⌝ }
-    ensures { λ r. ⌜ r ≡ legalsSet (rulesFrom (now (s .entry)) first n) k ⌝ }
-{
-    let empty = FactSet { bits: 0 };
-    gather(s, first, n, Ask::Legals, k, empty).number()
-}
-
 pub fn is_terminal(s: &[u8], first: usize, n: usize, k: Look) -> bool
     requires { ⌜ rulesEnd (now s) first n ≤ length (now s) ⌝ }
     ensures { λ r. ⌜ r ≡ isTerminal (rulesFrom (now (s .entry)) first n) k ⌝ }
@@ -239,15 +221,6 @@ pub fn is_goal(s: &[u8], first: usize, n: usize, k: Look, role: u8, value: u8) -
 {
     let empty = FactSet { bits: 0 };
     gather(s, first, n, Ask::Goal(role, value), k, empty).number() != 0
-}
-
-// The successor. Nothing persists: it is gathered from the empty set.
-pub fn next_facts(s: &[u8], first: usize, n: usize, k: Look) -> FactSet
-    requires { ⌜ rulesEnd (now s) first n ≤ length (now s) ⌝ }
-    ensures { λ r. ⌜ r .bits ≡ nextFacts (rulesFrom (now (s .entry)) first n) k ⌝ }
-{
-    let empty = FactSet { bits: 0 };
-    gather(s, first, n, Ask::Next, k, empty)
 }
 
 // State 0.

@@ -1,9 +1,8 @@
-// Lent tables: their lengths, an entry of one, a number found in one, and a table cleared. No function here asks anything of its caller.
+// Lent tables: their lengths, an entry of one, and a table cleared. No function here asks anything of its caller.
 ghost use mathlib.Core.Path.{_≡_};
 ghost use Prim.Native.Nat.{min};
-ghost use lib.ListN.{length, getD, take, replicate};
+ghost use lib.ListN.{length, getD, replicate};
 ghost use Rattle.tables.specs.Lengths.{stateLimit, moveLimit, rightLengths};
-ghost use Rattle.tables.specs.Place.{place};
 
 // The most states and the most joint moves that a model may have.
 pub const STATE_LIMIT: usize = 1024;
@@ -55,21 +54,6 @@ pub fn entry16(table: &[u16], i: usize) -> u64
     ensures { λ r. ⌜ r ≡ getD (now (table .entry)) i 0 ⌝ }
 {
     if i < table.len() { wide(table[i]) } else { 0 }
-}
-
-// The first index of x among the first n entries of a table; without one, n, or the table's length if that is less.
-pub fn find(table: &[u64], n: usize, x: u64) -> usize
-    ensures { λ r. ⌜ r ≡ place x (take n (now (table .entry))) ⌝ }
-{
-    let end = least(n, table.len());
-    let mut i = 0;
-    while i < end {
-        if table[i] == x {
-            return i;
-        }
-        i += 1;
-    }
-    end
 }
 
 // Every entry becomes zero.

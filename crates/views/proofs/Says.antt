@@ -183,7 +183,7 @@ module _ (rs : List Rule) (fit : ViewsFit 64 rs) where
     unfolding answer
     views-same = sym (views-only (views 64 (viewRules rs) facts) (views-are 64 (viewRules rs) (rules-fit 64 rs fit) (accepted-answer (refused 64 (viewRules rs)) .0 ok) facts))
 
-    -- what `look_of` gives, by those levels, is what literals are read off there
+    -- what `lookIn` gives, by those levels, is what literals are read off there
     pub look-at : (moves : List ℕ) → At rs facts moves (lookIn rs facts (masksOf rs) moves)
     look-at moves = record { facts-are = refl; views-are = views-is; moves-are = refl }
 

@@ -1,4 +1,4 @@
-// The views of a state over the lent sheet, level after level, and refusal 5.
+// The views of the lent sheet: which views each leads to, the views of each level, and refusal 5.
 ghost use mathlib.Core.Path.{_≡_};
 ghost use mathlib.Core.Bool.{cond};
 ghost use mathlib.Core.List.{map};
@@ -7,12 +7,9 @@ ghost use lib.ListN.{length, getD};
 ghost use Rattle.sheet.specs.Data.{byte, partAt, bodyFrom, ruleAt, rulesFrom, rulesEnd};
 ghost use Rattle.rules.specs.Rules.{over};
 ghost use Rattle.views.specs.Meaning.{literalOf, bodyOf, viewRules};
-ghost use Rattle.views.specs.Reference.{listed, layer, nameOf, rowOf, row, rows, join, close, backTo, any, onChain, closed, lowest};
-ghost use Rattle.views.specs.Sheet.{viewed, reachOf, maskAt, masksOf, lookAt, sweepOf, viewsAt, lookIn, answerOf, answer};
+ghost use Rattle.views.specs.Reference.{listed, nameOf, rowOf, row, rows, join, close, backTo, any, onChain, closed, lowest};
+ghost use Rattle.views.specs.Sheet.{viewed, reachOf, maskAt, masksOf, answerOf, answer};
 use facts::FactSet;
-use rules::Ask;
-use rules::Look;
-use rules::gather;
 use rules::rule_length;
 use rules::wide;
 
@@ -20,83 +17,6 @@ use rules::wide;
 pub enum Strata {
     Stratified,
     NotStratified(u8),
-}
-
-// ---- the views of a state
-
-pub fn look_at(facts: FactSet) -> Look
-    ensures { λ r. ⌜ r ≡ lookAt (facts .bits) ⌝ }
-{
-    let views = FactSet { bits: 0 };
-    Look {
-        facts,
-        views,
-        moves: [0; 4],
-    }
-}
-
-// The views of one level, given those below.
-pub fn layer_of(s: &[u8], first: usize, n: usize, k: Look, only: u64, start: u64) -> u64
-    requires { ⌜ rulesEnd (now s) first n ≤ length (now s) ⌝ }
-    ensures { λ r. ⌜ r ≡ layer (sweepOf (rulesFrom (now (s .entry)) first n) k) only start ⌝ }
-{
-    if only == 0 {
-        return start;
-    }
-    let mut x = start;
-    let mut turn: usize = 0;
-    while turn < 64 {
-        let y = gather(
-            s,
-            first,
-            n,
-            Ask::View(FactSet { bits: only }),
-            k,
-            FactSet { bits: x },
-        ).number();
-        if y == x {
-            return x;
-        }
-        x = y;
-        turn += 1;
-    }
-    x
-}
-
-// The views of a state; `masks` has the views of each level.
-pub fn views_of(s: &[u8], first: usize, n: usize, facts: FactSet, masks: &[u64; 64]) -> FactSet
-    requires { ⌜ (rulesEnd (now s) first n ≤ length (now s)) × (length (now masks) ≡ 64) ⌝ }
-    ensures { λ r. ⌜ r .bits ≡ viewsAt (rulesFrom (now (s .entry)) first n) (facts .bits) (now (masks .entry)) ⌝ }
-{
-    let k = look_at(facts);
-    let mut x: u64 = 0;
-    let mut i: usize = 0;
-    while i < 64 {
-        let only = masks[i];
-        x = layer_of(s, first, n, k, only, x);
-        i += 1;
-    }
-    FactSet { bits: x }
-}
-
-// What literals are read off in a state, with a move for each role.
-pub fn look_of(
-    s: &[u8],
-    first: usize,
-    n: usize,
-    facts: FactSet,
-    masks: &[u64; 64],
-    moves: [u16; 4],
-) -> Look
-    requires { ⌜ (rulesEnd (now s) first n ≤ length (now s)) × (length (now masks) ≡ 64) ⌝ }
-    ensures { λ r. ⌜ r ≡ lookIn (rulesFrom (now (s .entry)) first n) (facts .bits) (now (masks .entry)) moves ⌝ }
-{
-    let views = views_of(s, first, n, facts, masks);
-    Look {
-        facts,
-        views,
-        moves,
-    }
 }
 
 // ---- the rows: which views each view leads to

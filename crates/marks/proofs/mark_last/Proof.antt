@@ -1,4 +1,5 @@
 -- `marks::mark_last`: the choices are those of the counts that came back.
+use native.Mathlib.Omega.{arith}
 use mathlib.Core.Path.{refl, ap, _∙_}
 use mathlib.Core.List.{_++_}
 use lib.ListN.{drop}
@@ -12,7 +13,10 @@ mark-spread-requires : tie.Need-mark-spread-requires
 mark-spread-requires c κs = search needs
 
 fill-choices-requires : tie.Need-fill-choices-requires
-fill-choices-requires c κs = search needs
+fill-choices-requires c κs =
+    let pre = c .before .before .before .before .before .before .before .before .before .before .before .before .before .before .before .before .before .before .before .before .before .before .before .before .before .before .before .pre in
+    let tables = c .before .before .before .before .before .before .before .before .before .before .before .before .mark-spread .kept .1 .1 .1 .1 .1 .1 .1 .1 .1 .1 .1 .1 .1 in
+    (pre .0, omega (arith, tables .0, pre .2), pre .3, omega (arith, tables .1 .0, pre .6), omega (arith, tables .1 .1 .0, pre .7))
 
 same-length : tie.Need-same-length
 same-length c = search needs
@@ -23,14 +27,20 @@ same-length-2 c = search needs
 same-length-3 : tie.Need-same-length-3
 same-length-3 c = search needs
 
+same-length-4 : tie.Need-same-length-4
+same-length-4 c = search needs
+
+same-length-5 : tie.Need-same-length-5
+same-length-5 c = search needs
+
 returns : tie.Need-returns
 returns c =
-    let args = c .before .before .before .before .before .before .before .before .before .before .before .before .before .before .before .before .before .before .before .before .args in
-    let mark-spread = c .before .before .before .before .before .before .before .before .before .mark-spread in
+    let args = c .before .before .before .before .before .before .before .before .before .before .before .before .before .before .before .before .before .before .before .before .before .before .before .before .before .before .before .before .before .before .before .before .before .before .args in
+    let mark-spread = c .before .before .before .before .before .before .before .before .before .before .before .before .before .before .before .before .before .before .before .mark-spread in
     let e = counts-eventually (inCounts (args .n) (args .starts .now) (args .successors .now) (args .counts .now) (args .mask)) (args .marks .now)
     (args .a) in (
       mark-spread .ensures .0 ∙ ap (λ x. x ++ drop (args .n) (args .rounds .now)) e,
-      c .before .before .fill-choices .ensures ∙
+      c .before .before .before .before .before .before .fill-choices .ensures ∙
           ap (λ x. x ++ drop (args .n) (args .choices .now))
           (choices-eventually (inCounts (args .n) (args .starts .now) (args .successors .now) (args .counts .now) (args .mask)) (args .marks .now)
           (args .rounds .now) _ _ (args .a) (mark-spread .ensures .0) refl),
@@ -48,4 +58,6 @@ mark-last-spec =
     same-length
     same-length-2
     same-length-3
+    same-length-4
+    same-length-5
     returns)

@@ -2,8 +2,7 @@
 use native.Mathlib.Omega.{arith}
 use mathlib.Core.Path.{sym, ap, _∙_}
 use mathlib.Core.List.{_++_}
-use Prim.Native.Nat.{ℕ}
-use lib.ListN.{replicate, drop, length-replicate}
+use lib.ListN.{drop}
 use lib.Seq.{length-take-le}
 use Rattle.atl.specs.Marking.{counted}
 use Rattle.marking.specs.Table.{side}
@@ -13,41 +12,30 @@ use borrow.Author.Needs.{needs}
 use Rattle.marks.proofs.mark_spread.Statement.{statement}
 use Rattle.marks.proofs.mark_spread.Tie as tie
 
-slice-aggregate-fill-classes : tie.Need-slice-aggregate-fill-classes
-slice-aggregate-fill-classes c = search needs
-
 fill-classes-requires : tie.Need-fill-classes-requires
 fill-classes-requires c κs =
-    let pre = c .before .before .before .before .before .before .before .before .pre in
-    let args = c .before .before .before .before .before .before .before .before .args in
-    classes-asks (pre .0) (args .mask) (replicate 8192 0) (length-replicate {A = ℕ} 8192 0)
-
-slice-aggregate-count-rounds : tie.Need-slice-aggregate-count-rounds
-slice-aggregate-count-rounds c = search needs
+    let pre = c .before .before .before .before .before .before .before .before .before .before .pre in
+    let args = c .before .before .before .before .before .before .before .before .before .before .args in
+    classes-asks (pre .0) (args .mask) (args .classes .now) (pre .5)
 
 slice-relend-prefix-count-rounds : tie.Need-slice-relend-prefix-count-rounds
 slice-relend-prefix-count-rounds c = search needs
 
-slice-aggregate-count-rounds-2 : tie.Need-slice-aggregate-count-rounds-2
-slice-aggregate-count-rounds-2 c =
-    let args = c .before .before .before .before .before .before .before .before .before .before .before .before .before .args in
-    let pre = c .before .before .before .before .before .before .before .before .before .before .before .before .before .pre in
+slice-aggregate-count-rounds : tie.Need-slice-aggregate-count-rounds
+slice-aggregate-count-rounds c =
+    let pre = c .before .before .before .before .before .before .before .before .before .before .before .before .before .before .before .before .pre in
+    let args = c .before .before .before .before .before .before .before .before .before .before .before .before .before .before .before .before .args in
     sym (length-take-le (args .n) (args .rounds .now) (pre .2))
-
-slice-aggregate-count-rounds-3 : tie.Need-slice-aggregate-count-rounds-3
-slice-aggregate-count-rounds-3 c = search needs
 
 count-rounds-requires : tie.Need-count-rounds-requires
 count-rounds-requires c κs =
-    let pre = c .before .before .before .before .before .before .before .before .before .before .before .before .before .before .pre in
-    let args = c .before .before .before .before .before .before .before .before .before .before .before .before .before .before .args in
-    let fill-classes = c .before .before .before .before .before .fill-classes in (
-      tables (pre .0) (args .mask) (replicate 8192 0) (length-replicate {A = ℕ} 8192 0) _ (fill-classes .ensures),
+    let pre = c .before .before .before .before .before .before .before .before .before .before .before .before .before .before .before .before .before .pre in
+    let args = c .before .before .before .before .before .before .before .before .before .before .before .before .before .before .before .before .before .args in (
+      tables (pre .0) (args .mask) (args .classes .now) (pre .5) _ (c .before .before .before .before .before .before .fill-classes .ensures),
       pre .4,
-      length-take-le (args .n)
-          (args .rounds .now) (pre .2),
+      length-take-le (args .n) (args .rounds .now) (pre .2),
       pre .1,
-      search needs,
+      omega (arith, pre .0 .fits, pre .6),
       pre .0 .few,
     )
 
@@ -56,16 +44,14 @@ slice-reshare-prefix-mark-counts c = search needs
 
 slice-aggregate-mark-counts : tie.Need-slice-aggregate-mark-counts
 slice-aggregate-mark-counts c =
-    let args = c .before .before .before .before .before .before .before .before .before .before .before .before .before .before .before .before .before .before .before .args in
-    let count-rounds = c .before .before .before .before .count-rounds in
-    sym (back-length (args .n) _ _ (args .n) (args .rounds .now) _ (count-rounds .ensures))
+    let args = c .before .before .before .before .before .before .before .before .before .before .before .before .before .before .before .before .before .before .before .before .before .before .before .args in
+    sym (back-length (args .n) _ _ (args .n) (args .rounds .now) _ (c .before .before .before .before .before .count-rounds .ensures))
 
 mark-counts-requires : tie.Need-mark-counts-requires
 mark-counts-requires c κs =
-    let args = c .before .before .before .before .before .before .before .before .before .before .before .before .before .before .before .before .before .before .before .before .args in
-    let count-rounds = c .before .before .before .before .before .count-rounds in
-    let pre = c .before .before .before .before .before .before .before .before .before .before .before .before .before .before .before .before .before .before .before .before .pre in
-    let z = back-length (args .n) _ _ (args .n) (args .rounds .now) _ (count-rounds .ensures) in
+    let pre = c .before .before .before .before .before .before .before .before .before .before .before .before .before .before .before .before .before .before .before .before .before .before .before .before .pre in
+    let args = c .before .before .before .before .before .before .before .before .before .before .before .before .before .before .before .before .before .before .before .before .before .before .before .before .args in
+    let z = back-length (args .n) _ _ (args .n) (args .rounds .now) _ (c .before .before .before .before .before .before .count-rounds .ensures) in
     (omega arith, pre .1, omega (arith, pre .0 .few), pre .3)
 
 same-length : tie.Need-same-length
@@ -74,13 +60,18 @@ same-length c = search needs
 same-length-2 : tie.Need-same-length-2
 same-length-2 c = search needs
 
+same-length-3 : tie.Need-same-length-3
+same-length-3 c = search needs
+
+same-length-4 : tie.Need-same-length-4
+same-length-4 c = search needs
+
 returns : tie.Need-returns
 returns c =
-    let pre = c .before .before .before .before .before .before .before .before .before .before .before .before .before .before .before .before .before .before .before .before .before .before .before .pre in
-    let args = c .before .before .before .before .before .before .before .before .before .before .before .before .before .before .before .before .before .before .before .before .before .before .before .args in
-    let fill-classes = c .before .before .before .before .before .before .before .before .before .before .before .before .before .before .fill-classes in
-    let count-rounds = c .before .before .before .before .before .before .before .before .count-rounds in
-    let e = same-counts (pre .0) (args .mask) (replicate 8192 0) (length-replicate {A = ℕ} 8192 0) _ (fill-classes .ensures) (args .want)
+    let pre = c .before .before .before .before .before .before .before .before .before .before .before .before .before .before .before .before .before .before .before .before .before .before .before .before .before .before .before .pre in
+    let args = c .before .before .before .before .before .before .before .before .before .before .before .before .before .before .before .before .before .before .before .before .before .before .before .before .before .before .before .args in
+    let count-rounds = c .before .before .before .before .before .before .before .before .before .count-rounds in
+    let e = same-counts (pre .0) (args .mask) (args .classes .now) (pre .5) _ (c .before .before .before .before .before .before .before .before .before .before .before .before .before .before .before .before .fill-classes .ensures) (args .want)
     (args .bound) (args .marks .now) (args .a) (args .b) _ (count-rounds .ensures) in (
       ap (λ x. x ++ drop (args .n) (args .rounds .now)) e,
       c .before .before .mark-counts .ensures ∙
@@ -92,16 +83,15 @@ pub mark-spread-spec : {M : Type 1} → statement M
 mark-spread-spec =
     tie.close
     (tie.spec
-    slice-aggregate-fill-classes
     fill-classes-requires
-    slice-aggregate-count-rounds
     slice-relend-prefix-count-rounds
-    slice-aggregate-count-rounds-2
-    slice-aggregate-count-rounds-3
+    slice-aggregate-count-rounds
     count-rounds-requires
     slice-reshare-prefix-mark-counts
     slice-aggregate-mark-counts
     mark-counts-requires
     same-length
     same-length-2
+    same-length-3
+    same-length-4
     returns)

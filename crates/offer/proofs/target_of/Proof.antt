@@ -1,5 +1,5 @@
-use native.Mathlib.Omega.{arith}
 -- `offer::target_of` meets its contract: there are at most 65,536 joint moves, so that the number fits.
+use native.Mathlib.Omega.{arith}
 use Rattle.sheet.specs.Reading.{sheetIn}
 use Rattle.choices.specs.Laws.{total-four}
 use Rattle.offer.proofs.Right.{few-roles}
