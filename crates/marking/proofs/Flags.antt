@@ -20,7 +20,7 @@ use Rattle.marking.specs.Table.{inTables, Tables}
 use Rattle.marking.specs.Flags.{cleared, strike, strikes, clean, firstOf, foundOf}
 use Rattle.marking.specs.declared.Found.the-variants.{At, Nothing}
 
-cleared-zero : (l : List ℕ) (k x : ℕ) → k ≤ length l → x < k → getD (cleared l k) x 0 ≡ 0
+pub cleared-zero : (l : List ℕ) (k x : ℕ) → k ≤ length l → x < k → getD (cleared l k) x 0 ≡ 0
 cleared-zero l k x h m = filled-at (λ x. 0) l k x h m
 
 module _ (successors classes : List ℕ) (w : States) (first : ℕ) where

@@ -3,3 +3,4 @@ pub mod Table
 pub mod Flags
 pub mod Rule
 pub mod Walk
+pub mod Kinds

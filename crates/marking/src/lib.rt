@@ -1,14 +1,16 @@
 // The marking of a game in tables: what a coalition can secure in one position, round counts, choices.
 ghost use mathlib.Core.Path.{_≡_};
-ghost use mathlib.Core.Bool.{cond};
+ghost use mathlib.Core.Bool.{cond, not};
 ghost use Prim.Native.Nat.{ℕ, _+_, _-_, _<_, _≤_};
-ghost use lib.ListN.{getD, length};
+ghost use lib.ListN.{getD, length, set};
 ghost use Rattle.facts.specs.Bits.{has};
 ghost use Rattle.atl.specs.Bounded.{lowest, tabulate};
 ghost use Rattle.atl.specs.Marking.{secures, force, counted, unset, swept, plan as planOf, choice as choiceOf};
 ghost use Rattle.radix.specs.Classes.{movesAt};
 ghost use Rattle.marking.specs.Table.{inTables, side, Tables, Block};
 ghost use Rattle.marking.specs.Flags.{cleared, strike, strikes, firstClean, firstOf};
+ghost use Rattle.marking.specs.Kinds.{struck, kindsOf, Kinds, Struck, Halted};
+ghost use Rattle.incoming.specs.Index.{bit as one};
 ghost use Rattle.incoming.specs.Owners.{Incoming};
 ghost use Rattle.incoming.specs.Build.{Zeros};
 ghost use Rattle.marking.specs.Rule.{bits, permits, rule};
@@ -135,6 +137,184 @@ pub fn holds_at(
     }
 }
 
+// Joint move `p`, of class `c`, as `strike_one` has it, and whether the class was struck out by it: of a class that is struck out nothing is read.
+fn strike_new(
+    successors: &[u16],
+    table: &[u16],
+    r: u16,
+    want: bool,
+    p: usize,
+    c: usize,
+    flags: &mut [u8],
+) -> bool
+    requires { ⌜ (p < length (now successors)) × (getD (now successors) p 0 < length (now table)) × (c < length (now flags)) ⌝ }
+    ensures { λ x. ⌜ Struck (side want (counted (now (table .entry)) r) (getD (now (successors .entry)) p 0)) c (now (flags .entry)) (now (flags .exit)) x ⌝ }
+{
+    if flags[c] == 1 {
+        return false;
+    }
+    let t = wide(successors[p]);
+    if within(table, r, want, t) {
+        return false;
+    }
+    flags[c] = 1;
+    true
+}
+
+// The same for `count` joint moves, which have `most` classes or fewer, and whether it ended early: with that many struck out none is left.
+fn strike_some(
+    successors: &[u16],
+    classes: &[u16],
+    table: &[u16],
+    r: u16,
+    want: bool,
+    first: usize,
+    count: usize,
+    most: usize,
+    flags: &mut [u8],
+) -> bool
+    requires { ⌜ Block first count (now successors) (now classes) (length (now table)) count × (count ≤ length (now flags))
+        × ((c : ℕ) → c < count → getD (now flags) c 0 ≡ 0) × (kindsOf (now classes) first count ≤ most) ⌝ }
+    ensures { λ x. ⌜ Halted (now (successors .entry)) (now (classes .entry)) (side want (counted (now (table .entry)) r)) first count (now (flags .entry)) (now (flags .exit)) x ⌝ }
+{
+    let mut left = most;
+    let mut k = 0;
+    while k < count {
+        let c = wide(classes[first + k]);
+        if strike_new(successors, table, r, want, first + k, c, flags) {
+            if left <= 1 {
+                return true;
+            }
+            left -= 1;
+        }
+        k += 1;
+    }
+    false
+}
+
+// `force_at` for a position of `most` classes or fewer: it ends as soon as all are struck out.
+fn force_within(
+    n: usize,
+    starts: &[u16],
+    successors: &[u16],
+    classes: &[u16],
+    table: &[u16],
+    r: u16,
+    want: bool,
+    i: usize,
+    most: usize,
+    flags: &mut [u8],
+) -> Found
+    requires { ⌜ Tables n (now starts) (now successors) (now classes) × (n ≤ length (now table)) × (length (now successors) ≤ length (now flags)) × (i < n)
+        × (kindsOf (now classes) (getD (now starts) i 0) (movesAt (now starts) i) ≤ most) ⌝ }
+    ensures { λ x. ⌜ x ≡ firstOf (movesAt (now (starts .entry)) i) (secures (inTables n (now (starts .entry)) (now (successors .entry)) (now (classes .entry))) (side want (counted (now (table .entry)) r)) i) ⌝ }
+{
+    let first = wide(starts[i]);
+    let last = wide(starts[i + 1]);
+    let count = last - first;
+    clear(flags, count);
+    if strike_some(
+        successors,
+        classes,
+        table,
+        r,
+        want,
+        first,
+        count,
+        most,
+        flags,
+    ) {
+        return Found::Nothing;
+    }
+    lowest_clean(classes, flags, first, count)
+}
+
+// `holds_at` for a position of `most` classes or fewer.
+fn holds_within(
+    n: usize,
+    starts: &[u16],
+    successors: &[u16],
+    classes: &[u16],
+    table: &[u16],
+    r: u16,
+    want: bool,
+    i: usize,
+    most: usize,
+    flags: &mut [u8],
+) -> bool
+    requires { ⌜ Tables n (now starts) (now successors) (now classes) × (n ≤ length (now table)) × (length (now successors) ≤ length (now flags)) × (i < n)
+        × (kindsOf (now classes) (getD (now starts) i 0) (movesAt (now starts) i) ≤ most) ⌝ }
+    ensures { λ x. ⌜ x ≡ side want (force (inTables n (now (starts .entry)) (now (successors .entry)) (now (classes .entry))) (side want (counted (now (table .entry)) r))) i ⌝ }
+{
+    let f = force_within(
+        n,
+        starts,
+        successors,
+        classes,
+        table,
+        r,
+        want,
+        i,
+        most,
+        flags,
+    );
+    match f {
+        Found::At(_) => want,
+        Found::Nothing => !want,
+    }
+}
+
+// The flag of class `c` is set, and `found` goes up where it was not.
+fn meet(c: usize, found: usize, flags: &mut [u8]) -> usize
+    requires { ⌜ (c < length (now flags)) × (found ≤ 65535) ⌝ }
+    ensures { λ x. ⌜ (now (flags .exit) ≡ set (now (flags .entry)) c 1) × (x ≡ found + one (not (struck (now (flags .entry)) c))) ⌝ }
+{
+    let old = flags[c];
+    flags[c] = 1;
+    if old == 1 {
+        return found;
+    }
+    found + 1
+}
+
+// How many classes `count` joint moves have.
+fn kinds_at(classes: &[u16], first: usize, count: usize, flags: &mut [u8]) -> u16
+    requires { ⌜ (first + count ≤ length (now classes)) × (count ≤ 65535) × (count ≤ length (now flags)) × ((j : ℕ) → j < count → getD (now classes) (first + j) 0 < count) ⌝ }
+    ensures { λ x. ⌜ x ≡ kindsOf (now (classes .entry)) first count ⌝ }
+{
+    clear(flags, count);
+    let mut found = 0;
+    let mut k = 0;
+    while k < count {
+        let c = wide(classes[first + k]);
+        found = meet(c, found, flags);
+        k += 1;
+    }
+    found as u16
+}
+
+// How many classes each position has.
+fn count_kinds(
+    n: usize,
+    starts: &[u16],
+    successors: &[u16],
+    classes: &[u16],
+    kinds: &mut [u16],
+    flags: &mut [u8],
+)
+    requires { ⌜ Tables n (now starts) (now successors) (now classes) × (n ≤ length (now kinds)) × (length (now successors) ≤ length (now flags)) ⌝ }
+    ensures { λ _. ⌜ Kinds n (now (starts .entry)) (now (classes .entry)) (now (kinds .exit)) ⌝ }
+{
+    let mut i = 0;
+    while i < n {
+        let first = wide(starts[i]);
+        let last = wide(starts[i + 1]);
+        let x = kinds_at(classes, first, last - first, flags);
+        kinds[i] = x;
+        i += 1;
+    }
+}
+
 // The lowest choice in position `i` that secures the positions of count at most `r`, or the number of joint moves where none does.
 fn lowest_at(
     n: usize,
@@ -203,6 +383,7 @@ fn step(
     starts: &[u16],
     successors: &[u16],
     classes: &[u16],
+    kinds: &[u16],
     marks: &[u64],
     bound: bool,
     k: u8,
@@ -212,7 +393,7 @@ fn step(
     i: usize,
     flags: &mut [u8],
 ) -> bool
-    requires { ⌜ Tables n (now starts) (now successors) (now classes) × (length (now rounds) ≡ n) × (n ≤ length (now marks)) × (length (now successors) ≤ length (now flags)) × (i < n) × (r < unset) × (r < getD (now rounds) i 0 → getD (now rounds) i 0 ≡ unset) ⌝ }
+    requires { ⌜ Tables n (now starts) (now successors) (now classes) × (length (now rounds) ≡ n) × (n ≤ length (now marks)) × (length (now successors) ≤ length (now flags)) × (i < n) × (r < unset) × (r < getD (now rounds) i 0 → getD (now rounds) i 0 ≡ unset) × Kinds n (now starts) (now classes) (now kinds) ⌝ }
     ensures { λ x. ⌜ Stepped (rule (inTables n (now (starts .entry)) (now (successors .entry)) (now (classes .entry))) want (permits bound (now (marks .entry)) k)) r i (now (rounds .entry)) (now (rounds .exit)) x ⌝ }
 {
     if rounds[i] <= r {
@@ -221,7 +402,19 @@ fn step(
     if !permitted(bound, marks, k, i) {
         return false;
     }
-    if !holds_at(n, starts, successors, classes, rounds, r, want, i, flags) {
+    let most = wide(kinds[i]);
+    if !holds_within(
+        n,
+        starts,
+        successors,
+        classes,
+        rounds,
+        r,
+        want,
+        i,
+        most,
+        flags,
+    ) {
         return false;
     }
     rounds[i] = r + 1;
@@ -234,6 +427,7 @@ fn attempt(
     starts: &[u16],
     successors: &[u16],
     classes: &[u16],
+    kinds: &[u16],
     marks: &[u64],
     bound: bool,
     k: u8,
@@ -247,7 +441,7 @@ fn attempt(
     flags: &mut [u8],
 ) -> usize
     requires { ⌜ Tables n (now starts) (now successors) (now classes)
-        × (n ≤ length (now marks)) × (length (now successors) ≤ length (now flags)) × (n ≤ 1024) × (i < n) × (r ≤ n) × Queued n r more (now rounds) (now queue) (now tried) ⌝ }
+        × (n ≤ length (now marks)) × (length (now successors) ≤ length (now flags)) × (n ≤ 1024) × (i < n) × (r ≤ n) × Queued n r more (now rounds) (now queue) (now tried) × Kinds n (now starts) (now classes) (now kinds) ⌝ }
     ensures { λ x. ⌜ Queued n r x (now (rounds .exit)) (now (queue .exit)) (now (tried .exit))
         × Onward (rule (inTables n (now (starts .entry)) (now (successors .entry)) (now (classes .entry))) want (permits bound (now (marks .entry)) k)) n r more x
         (now (rounds .entry)) (now (queue .entry)) (now (tried .entry)) (now (rounds .exit)) (now (queue .exit)) (now (tried .exit))
@@ -262,6 +456,7 @@ fn attempt(
         starts,
         successors,
         classes,
+        kinds,
         marks,
         bound,
         k,
@@ -284,6 +479,7 @@ fn walk_into(
     starts: &[u16],
     successors: &[u16],
     classes: &[u16],
+    kinds: &[u16],
     froms: &[u16],
     owners: &[u16],
     marks: &[u64],
@@ -299,7 +495,7 @@ fn walk_into(
     flags: &mut [u8],
 ) -> usize
     requires { ⌜ Tables n (now starts) (now successors) (now classes) × Incoming n (now starts) (now successors) (now froms) (now owners)
-        × (n ≤ length (now marks)) × (length (now successors) ≤ length (now flags)) × (n ≤ 1024) × (t < n) × (r ≤ n) × Queued n r more (now rounds) (now queue) (now tried) ⌝ }
+        × (n ≤ length (now marks)) × (length (now successors) ≤ length (now flags)) × (n ≤ 1024) × (t < n) × (r ≤ n) × Queued n r more (now rounds) (now queue) (now tried) × Kinds n (now starts) (now classes) (now kinds) ⌝ }
     ensures { λ x. ⌜ Queued n r x (now (rounds .exit)) (now (queue .exit)) (now (tried .exit))
         × Onward (rule (inTables n (now (starts .entry)) (now (successors .entry)) (now (classes .entry))) want (permits bound (now (marks .entry)) k)) n r more x
         (now (rounds .entry)) (now (queue .entry)) (now (tried .entry)) (now (rounds .exit)) (now (queue .exit)) (now (tried .exit))
@@ -315,6 +511,7 @@ fn walk_into(
             starts,
             successors,
             classes,
+            kinds,
             marks,
             bound,
             k,
@@ -338,6 +535,7 @@ fn walk_round(
     starts: &[u16],
     successors: &[u16],
     classes: &[u16],
+    kinds: &[u16],
     froms: &[u16],
     owners: &[u16],
     marks: &[u64],
@@ -353,7 +551,7 @@ fn walk_round(
     flags: &mut [u8],
 ) -> usize
     requires { ⌜ Tables n (now starts) (now successors) (now classes) × Incoming n (now starts) (now successors) (now froms) (now owners)
-        × (n ≤ length (now marks)) × (length (now successors) ≤ length (now flags)) × (n ≤ 1024) × (lo ≤ end) × (r ≤ n) × Queued n r end (now rounds) (now queue) (now tried) ⌝ }
+        × (n ≤ length (now marks)) × (length (now successors) ≤ length (now flags)) × (n ≤ 1024) × (lo ≤ end) × (r ≤ n) × Queued n r end (now rounds) (now queue) (now tried) × Kinds n (now starts) (now classes) (now kinds) ⌝ }
     ensures { λ x. ⌜ Queued n r x (now (rounds .exit)) (now (queue .exit)) (now (tried .exit))
         × Onward (rule (inTables n (now (starts .entry)) (now (successors .entry)) (now (classes .entry))) want (permits bound (now (marks .entry)) k)) n r end x
         (now (rounds .entry)) (now (queue .entry)) (now (tried .entry)) (now (rounds .exit)) (now (queue .exit)) (now (tried .exit))
@@ -368,6 +566,7 @@ fn walk_round(
             starts,
             successors,
             classes,
+            kinds,
             froms,
             owners,
             marks,
@@ -420,6 +619,7 @@ fn walk_rounds(
     starts: &[u16],
     successors: &[u16],
     classes: &[u16],
+    kinds: &[u16],
     froms: &[u16],
     owners: &[u16],
     marks: &[u64],
@@ -435,7 +635,7 @@ fn walk_rounds(
 )
     requires { ⌜ Tables n (now starts) (now successors) (now classes) × Incoming n (now starts) (now successors) (now froms) (now owners)
         × (n ≤ length (now marks)) × (length (now successors) ≤ length (now flags)) × (n ≤ 1024) × (n ≤ length (now queue)) × (n ≤ length (now tried))
-        × Zeros (now tried) × Lined n count (now rounds) (now queue) × (now rounds ≡ tabulate n (λ i. cond (side want (bits (now marks) kb) i) 0 unset)) ⌝ }
+        × Zeros (now tried) × Lined n count (now rounds) (now queue) × (now rounds ≡ tabulate n (λ i. cond (side want (bits (now marks) kb) i) 0 unset)) × Kinds n (now starts) (now classes) (now kinds) ⌝ }
     ensures { λ _. ⌜ now (rounds .exit) ≡ swept n (rule (inTables n (now (starts .entry)) (now (successors .entry)) (now (classes .entry))) want (permits bound (now (marks .entry)) ka)) (side want (bits (now (marks .entry)) kb)) n ⌝ }
 {
     let mut r: u16 = 0;
@@ -447,6 +647,7 @@ fn walk_rounds(
             starts,
             successors,
             classes,
+            kinds,
             froms,
             owners,
             marks,
@@ -491,6 +692,8 @@ pub fn count_rounds(
 {
     let mut queue = [0u16; 1024];
     let mut tried = [0u16; 1024];
+    let mut kinds = [0u16; 1024];
+    count_kinds(n, starts, successors, classes, &mut kinds, flags);
     begin(n, marks, kb, want, rounds);
     let count = enqueue(n, rounds, &mut queue);
     walk_rounds(
@@ -498,6 +701,7 @@ pub fn count_rounds(
         starts,
         successors,
         classes,
+        &kinds,
         froms,
         owners,
         marks,

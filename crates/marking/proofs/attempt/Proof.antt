@@ -11,7 +11,7 @@ mul-if1 c = search needs
 
 slice-read-if1 : tie.Need-slice-read-if1
 slice-read-if1 c =
-    let pre = c .before .before .before .before .before .before .before .before .before .pre in
+    let pre = c .before .before .before .before .before .before .before .before .before .before .pre in
     omega (arith, pre .4, pre .6 .space)
 
 add-if1 : tie.Need-add-if1
@@ -19,7 +19,7 @@ add-if1 c = search needs
 
 returns : tie.Need-returns
 returns c =
-    let pre = c .before .before .before .before .before .before .before .before .before .before .pre in
+    let pre = c .before .before .before .before .before .before .before .before .before .before .before .pre in
     tried-again (pre .0) _ _ (pre .3) (pre .4) (pre .5) (pre .6) (c .if1 .taken)
 
 add-tried : tie.Need-add-tried
@@ -30,35 +30,36 @@ mul-tried c = search needs
 
 slice-write-tried : tie.Need-slice-write-tried
 slice-write-tried c =
-    let pre = c .before .before .before .before .before .before .before .before .before .before .pre in
+    let pre = c .before .before .before .before .before .before .before .before .before .before .before .pre in
     omega (arith, pre .4, pre .6 .space)
 
 step-requires : tie.Need-step-requires
 step-requires c κs =
-    let pre = c .before .before .before .before .before .before .before .before .before .before .before .before .pre in
-    let args = c .before .before .before .before .before .before .before .before .before .before .before .before .args in
-    (pre .0, pre .6 .long, pre .1, pre .2, pre .4, omega (arith, pre .3, pre .5), step-asks (pre .0) (args .want) (permits (args .bound) (args .marks .now) (args .k)) (pre .3) (pre .4) (pre .5) (pre .6) (c .before .before .if1 .left))
+    let pre = c .before .before .before .before .before .before .before .before .before .before .before .before .before .pre in
+    let args = c .before .before .before .before .before .before .before .before .before .before .before .before .before .args in
+    let if1 = c .before .before .if1 in
+    (pre .0, pre .6 .long, pre .1, pre .2, pre .4, omega (arith, pre .3, pre .5), step-asks (pre .0) (args .want) (permits (args .bound) (args .marks .now) (args .k)) (pre .3) (pre .4) (pre .5) (pre .6) (if1 .left), pre .7)
 
 cast-queue : tie.Need-cast-queue
 cast-queue c = search needs
 
 mul-queue : tie.Need-mul-queue
 mul-queue c =
-    let pre = c .before .before .before .before .before .before .before .before .before .before .before .before .before .before .before .before .before .before .pre in
+    let pre = c .before .before .before .before .before .before .before .before .before .before .before .before .before .before .before .before .before .before .before .pre in
     let if1 = c .before .before .before .before .before .before .before .before .if1 in
     let step = c .before .before .before .before .before .step in
     omega (arith, push-room (pre .0) _ _ (pre .3) (pre .4) (pre .5) (pre .6) (if1 .left) _ _ (step .ensures) (c .if2 .taken), pre .3)
 
 slice-write-queue : tie.Need-slice-write-queue
 slice-write-queue c =
-    let pre = c .before .before .before .before .before .before .before .before .before .before .before .before .before .before .before .before .before .before .pre in
+    let pre = c .before .before .before .before .before .before .before .before .before .before .before .before .before .before .before .before .before .before .before .pre in
     let if1 = c .before .before .before .before .before .before .before .before .if1 in
     let step = c .before .before .before .before .before .step in
     omega (arith, push-room (pre .0) _ _ (pre .3) (pre .4) (pre .5) (pre .6) (if1 .left) _ _ (step .ensures) (c .if2 .taken), pre .6 .room)
 
 add-result : tie.Need-add-result
 add-result c =
-    let pre = c .before .before .before .before .before .before .before .before .before .before .before .before .before .before .before .before .before .before .pre in
+    let pre = c .before .before .before .before .before .before .before .before .before .before .before .before .before .before .before .before .before .before .before .pre in
     let if1 = c .before .before .before .before .before .before .before .before .if1 in
     let step = c .before .before .before .before .before .step in
     omega (arith, push-room (pre .0) _ _ (pre .3) (pre .4) (pre .5) (pre .6) (if1 .left) _ _ (step .ensures) (c .if2 .taken), pre .3)
@@ -77,7 +78,7 @@ same-length-4 c = search needs
 
 returns-2 : tie.Need-returns-2
 returns-2 c =
-    let pre = c .before .before .before .before .before .before .before .before .before .before .before .before .before .before .before .before .before .before .pre in
+    let pre = c .before .before .before .before .before .before .before .before .before .before .before .before .before .before .before .before .before .before .before .pre in
     let if1 = c .before .before .before .before .before .before .before .before .if1 in
     let step = c .before .before .before .before .before .step in
     tried-new (pre .0) _ _ (pre .3) (pre .4) (pre .5) (pre .6) (if1 .left) _ _ (step .ensures) (c .if2 .taken)
@@ -93,7 +94,7 @@ same-length-7 c = search needs
 
 returns-3 : tie.Need-returns-3
 returns-3 c =
-    let pre = c .before .before .before .before .before .before .before .before .before .before .before .before .before .before .before .before .before .before .pre in
+    let pre = c .before .before .before .before .before .before .before .before .before .before .before .before .before .before .before .before .before .before .before .pre in
     let if1 = c .before .before .before .before .before .before .before .before .if1 in
     let step = c .before .before .before .before .before .step in
     tried-still (pre .0) _ _ (pre .3) (pre .4) (pre .5) (pre .6) (if1 .left) _ _ (step .ensures) (c .if2 .left)

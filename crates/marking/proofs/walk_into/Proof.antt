@@ -13,27 +13,27 @@ use Rattle.marking.proofs.walk_into.Statement.{statement}
 use Rattle.marking.proofs.walk_into.Tie as tie
 
 abbrev Inv-loop : tie.InvT-loop
-Inv-loop n starts successors classes froms owners marks bound k r want t more rounds₀ queue₀ tried₀ flags₀ last e₀ x₀ rounds queue tried flags e x =
+Inv-loop n starts successors classes kinds froms owners marks bound k r want t more rounds₀ queue₀ tried₀ flags₀ last e₀ x₀ rounds queue tried flags e x =
     (getD froms t 0 ≤ e) × Queued n r x rounds queue tried ×
     Onward (rule (inTables n starts successors classes) want (permits bound marks k)) n r more x rounds₀ queue₀ tried₀ rounds queue tried ×
     Tried r owners (getD froms t 0) e tried × (length queue ≡ length queue₀) × (length tried ≡ length tried₀) × (length flags ≡ length flags₀)
 
 abbrev μ-loop : tie.MeasureT-loop
-μ-loop n starts successors classes froms owners marks bound k r want t more rounds₀ queue₀ tried₀ flags₀ last e₀ x₀ rounds queue tried flags e x = last - e
+μ-loop n starts successors classes kinds froms owners marks bound k r want t more rounds₀ queue₀ tried₀ flags₀ last e₀ x₀ rounds queue tried flags e x = last - e
 
 add-wide : tie.Need-add-wide Inv-loop μ-loop
 add-wide c =
-    let pre = c .before .before .before .before .before .before .before .before .before .before .pre in
+    let pre = c .before .before .before .before .before .before .before .before .before .before .before .pre in
     omega (arith, pre .5, pre .4)
 
 mul-wide : tie.Need-mul-wide Inv-loop μ-loop
 mul-wide c =
-    let pre = c .before .before .before .before .before .before .before .before .before .before .pre in
+    let pre = c .before .before .before .before .before .before .before .before .before .before .before .pre in
     omega (arith, pre .5, pre .4)
 
 shared-slice-read-wide : tie.Need-shared-slice-read-wide Inv-loop μ-loop
 shared-slice-read-wide c =
-    let pre = c .before .before .before .before .before .before .before .before .before .before .before .pre in
+    let pre = c .before .before .before .before .before .before .before .before .before .before .before .before .pre in
     omega (arith, pre .5, pre .1 .long)
 
 wide-requires : tie.Need-wide-requires Inv-loop μ-loop
@@ -41,12 +41,12 @@ wide-requires c κs = search needs
 
 mul-wide-2 : tie.Need-mul-wide-2 Inv-loop μ-loop
 mul-wide-2 c =
-    let pre = c .before .before .before .before .before .before .before .before .before .before .before .before .pre in
+    let pre = c .before .before .before .before .before .before .before .before .before .before .before .before .before .pre in
     omega (arith, pre .5, pre .4)
 
 shared-slice-read-wide-2 : tie.Need-shared-slice-read-wide-2 Inv-loop μ-loop
 shared-slice-read-wide-2 c =
-    let pre = c .before .before .before .before .before .before .before .before .before .before .before .before .before .pre in
+    let pre = c .before .before .before .before .before .before .before .before .before .before .before .before .before .before .pre in
     omega (arith, pre .5, pre .1 .long)
 
 wide-requires-2 : tie.Need-wide-requires-2 Inv-loop μ-loop
@@ -54,20 +54,22 @@ wide-requires-2 c κs = search needs
 
 loop-holds : tie.Need-loop-holds Inv-loop μ-loop
 loop-holds c =
-    let pre = c .before .before .before .before .before .before .before .before .before .before .before .before .before .before .pre in
-    let args = c .before .before .before .before .before .before .before .before .before .before .before .before .before .before .args in
-    (omega (arith, c .wide2 .ensures), pre .7, onward-none (rule (inTables (args .n) (args .starts .now) (args .successors .now) (args .classes .now)) (args .want) (permits (args .bound) (args .marks .now) (args .k))) (args .n) (args .r) (args .more) (args .rounds .now) (args .queue .now) (args .tried .now), tried-none (args .r) (args .owners .now) (c .wide2 .ensures) (args .tried .now), refl, refl, refl)
+    let pre = c .before .before .before .before .before .before .before .before .before .before .before .before .before .before .before .pre in
+    let args = c .before .before .before .before .before .before .before .before .before .before .before .before .before .before .before .args in
+    let wide2 = c .wide2 in
+    (omega (arith, wide2 .ensures), pre .7, onward-none (rule (inTables (args .n) (args .starts .now) (args .successors .now) (args .classes .now)) (args .want) (permits (args .bound) (args .marks .now) (args .k))) (args .n) (args .r) (args .more) (args .rounds .now) (args .queue .now) (args .tried .now), tried-none (args .r) (args .owners .now) (wide2 .ensures) (args .tried .now), refl, refl, refl)
 
 mul-wide-3 : tie.Need-mul-wide-3 Inv-loop μ-loop
 mul-wide-3 c =
-    let shared-slice-known4 = c .before .before .before .before .before .before .before .before .before .before .before .before .shared-slice-known4 in
-    let args = c .before .before .before .before .before .before .before .before .before .before .before .before .before .before .before .before .args in
-    omega (arith, shared-slice-known4 .given (args .t + 1), c .before .before .before .before .wide .ensures)
+    let shared-slice-known5 = c .before .before .before .before .before .before .before .before .before .before .before .before .shared-slice-known5 in
+    let args = c .before .before .before .before .before .before .before .before .before .before .before .before .before .before .before .before .before .args in
+    let wide = c .before .before .before .before .wide in
+    omega (arith, shared-slice-known5 .given (args .t + 1), wide .ensures)
 
 shared-slice-read-wide-3 : tie.Need-shared-slice-read-wide-3 Inv-loop μ-loop
 shared-slice-read-wide-3 c =
-    let pre = c .before .before .before .before .before .before .before .before .before .before .before .before .before .before .before .before .before .pre in
-    let args = c .before .before .before .before .before .before .before .before .before .before .before .before .before .before .before .before .before .args in
+    let pre = c .before .before .before .before .before .before .before .before .before .before .before .before .before .before .before .before .before .before .pre in
+    let args = c .before .before .before .before .before .before .before .before .before .before .before .before .before .before .before .before .before .before .args in
     let wide = c .before .before .before .before .before .wide in
     omega (arith, entries-in (pre .0 .placed) (pre .1) (args .t) (pre .5), wide .ensures)
 
@@ -76,11 +78,12 @@ wide-requires-3 c κs = search needs
 
 attempt-requires : tie.Need-attempt-requires Inv-loop μ-loop
 attempt-requires c κs =
-    let pre = c .before .before .before .before .before .before .before .before .before .before .before .before .before .before .before .before .before .before .before .before .before .before .pre in
-    let args = c .before .before .before .before .before .before .before .before .before .before .before .before .before .before .before .before .before .before .before .before .before .before .args in
+    let pre = c .before .before .before .before .before .before .before .before .before .before .before .before .before .before .before .before .before .before .before .before .before .before .before .pre in
+    let args = c .before .before .before .before .before .before .before .before .before .before .before .before .before .before .before .before .before .before .before .before .before .before .before .args in
     let loop = c .before .before .before .before .before .before .before .loop in
     let wide = c .before .before .before .before .before .before .before .before .before .before .wide in
-    (pre .0, pre .2, search needs, pre .4, omega (arith, entry-low (pre .0 .placed) (pre .1) (args .t) (loop .e) (pre .5) (loop .inv .0) (omega (arith, wide .ensures)), c .before .before .before .before .wide3 .ensures), pre .6, loop .inv .1)
+    let wide3 = c .before .before .before .before .wide3 in
+    (pre .0, pre .2, search needs, pre .4, omega (arith, entry-low (pre .0 .placed) (pre .1) (args .t) (loop .e) (pre .5) (loop .inv .0) (omega (arith, wide .ensures)), wide3 .ensures), pre .6, loop .inv .1, pre .8)
 
 add-e : tie.Need-add-e Inv-loop μ-loop
 add-e c = search needs
@@ -92,13 +95,13 @@ loop-again : tie.Need-loop-again Inv-loop μ-loop
 loop-again c =
     let loop = c .before .before .before .before .before .before .before .before .before .before .before .before .before .before .before .before .loop in
     let attempt = c .before .before .before .before .before .before .before .before .attempt in
-    let args = c .before .before .before .before .before .before .before .before .before .before .before .before .before .before .before .before .before .before .before .before .before .before .before .before .before .before .before .before .before .before .before .args in
+    let args = c .before .before .before .before .before .before .before .before .before .before .before .before .before .before .before .before .before .before .before .before .before .before .before .before .before .before .before .before .before .before .before .before .args in
     let wide3 = c .before .before .before .before .before .before .before .before .before .before .before .before .before .wide3 in
     (omega (arith, loop .inv .0), attempt .ensures .0, onward-more _ _ _ _ _ _ (args .rounds .now) (args .queue .now) (args .tried .now) (loop .rounds) (loop .queue) (loop .tried) _ _ _ (loop .inv .2) (attempt .ensures .1), entry-next (attempt .ensures .1) (args .owners .now) _ (loop .e) (wide3 .result) (wide3 .ensures) (loop .inv .3) (attempt .ensures .2), search needs, search needs, search needs)
 
 same-length : tie.Need-same-length Inv-loop μ-loop
 same-length c =
-    let pre = c .before .before .before .before .before .before .before .before .before .before .before .before .before .before .before .before .pre in
+    let pre = c .before .before .before .before .before .before .before .before .before .before .before .before .before .before .before .before .before .pre in
     c .before .loop .inv .1 .long ∙ sym (pre .7 .long)
 
 same-length-2 : tie.Need-same-length-2 Inv-loop μ-loop
@@ -112,8 +115,10 @@ same-length-4 c = c .before .loop .inv .6
 
 returns : tie.Need-returns Inv-loop μ-loop
 returns c =
-    let args = c .before .before .before .before .before .before .before .before .before .before .before .before .before .before .before .before .args in
-    (c .before .loop .inv .1, c .before .loop .inv .2, tried-all (args .r) (args .owners .now) (c .before .loop .tried) (c .before .before .before .before .wide .ensures) (search needs) (c .before .loop .inv .3))
+    let args = c .before .before .before .before .before .before .before .before .before .before .before .before .before .before .before .before .before .args in
+    let loop = c .before .loop in
+    let wide = c .before .before .before .before .wide in
+    (loop .inv .1, loop .inv .2, tried-all (args .r) (args .owners .now) (loop .tried) (wide .ensures) (search needs) (loop .inv .3))
 
 pub walk-into-spec : {M : Type 1} → statement M
 walk-into-spec =
