@@ -65,7 +65,8 @@ def one_wide_state(width, chain):
 
 def fan(width, bits):
     """State 0 has many joint moves, which lead into a counter at half of its
-    places; so its successors have as many different round counts."""
+    places; so its successors have as many different round counts.  Every
+    coalition is asked, so that the marking outweighs the building."""
     started = bits
     rules = [ru(NEXT, started), ru(NEXT, 0, 0, (NOT_TRUE, started))] + [r for r in counter_rules(bits, played=False) if r[:3] != b"RU\x02"]
     for i in range(bits):
@@ -81,8 +82,24 @@ def fan(width, bits):
                 place += 1
     rules.append(ru(TERMINAL, 0, 0, (IS_VIEW, bits)))
     joint = width[0] * width[1] * width[2]
-    nodes = [fo(N_TERMINAL), fo(N_EVENTUALLY, 0, 0, 4)]
+    nodes = [fo(N_TERMINAL), fo(N_NOT, 0)]
+    for mask in range(8):
+        nodes += [fo(N_ALWAYS, 1, 0, mask), fo(N_UNTIL, 1, 0, mask), fo(N_EVENTUALLY, 0, 0, mask)]
     return join([sz(3, bits + 1, bits + 1, 16), *rules, *nodes, ED]), 2 ** bits, joint + 2 ** bits - 1
+
+
+def one_remainder(digits):
+    """The sheet of many_joint with three facts for each, such that every state
+    has the same remainder by 1,021: where states were found by that remainder,
+    all of them would stand on one chain."""
+    start = (2, 7, 4, 10, 3, 5, 8, 9, 6, 0)
+    facts = [(f, f + 14, f + 52) for f in start[:digits]]
+    assert all(sum(2 ** f for f in three) % 1021 == 0 for three in facts)
+    rules = [ru(NEXT, f, 0, (TRUE, below[0])) for below, three in zip(facts, facts[1:]) for f in three]
+    rules += [ru(NEXT, f, 0, *does) for does in ([(DOES, 0, 1), (DOES, 1, 1)], [(DOES, 2, 1), (DOES, 1, 0)]) for f in facts[0]]
+    rules += [ru(LEGAL, r, m) for r in range(3) for m in range(2)] + [x for r in range(3) for x in name_moves(r, [0, 1])]
+    nodes = [fo(N_FACT, facts[0][0]), fo(N_FACT, facts[-1][0]), fo(N_AND, 0, 1), fo(N_EVENTUALLY, 2, 0, 3)]
+    return join([sz(3, 64, 0, 2), *rules, *nodes, ED]), 2 ** digits, 8 * 2 ** digits
 
 
 def nested(nodes_wanted):
@@ -136,6 +153,8 @@ def families():
         yield ("counter", 2 ** bits, counter_sheet(bits), 2 ** bits, 2 ** bits)
     for width, bits in (((8, 8, 8), 7), ((16, 8, 8), 8), ((16, 16, 8), 9), ((16, 16, 16), 10)):
         yield ("fan", width[0] * width[1] * width[2]) + fan(width, bits)
+    for digits in (7, 8, 9, 10):
+        yield ("one-remainder", 8 * 2 ** digits) + one_remainder(digits)
 
 
 def write_all(directory):

@@ -1,8 +1,5 @@
--- The laws of the marking: flags, one position, how many classes it has, the rule and its sweeps, one round of the walk, all rounds.
+-- The laws of the marking: flags, one position, what it has before the first round and which choice, the rule and its sweeps.
 pub mod Flags
 pub mod Position
-pub mod Early
 pub mod Trying
 pub mod Rounds
-pub mod Far
-pub mod Walk

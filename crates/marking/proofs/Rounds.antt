@@ -1,6 +1,6 @@
--- The tables are a game, its rule grows, and what the table of counts has after r sweeps.
+-- The tables are a game, its rule grows and asks only of the n positions, and what the table of counts has after r sweeps.
 use mathlib.Core.Path.{_≡_, refl, ap, _∙_}
-use mathlib.Core.Bool.{Bool, true, false, not, cond}
+use mathlib.Core.Bool.{Bool, true, false, _&&_, _||_, not, cond}
 use mathlib.Core.List.{List}
 use Prim.Native.Nat.{ℕ, _+_, _≤_, _<_}
 use native.Mathlib.Omega.{arith}
@@ -8,8 +8,8 @@ use lib.ListN.{getD, length}
 use borrow.Author.Tests.{eq-eqb, not-true}
 use Rattle.atl.specs.Bounded.{tabulate}
 use Rattle.atl.specs.Game.{Game, IsGame, States}
-use Rattle.atl.specs.Marking.{unset, swept}
-use Rattle.atl.proofs.Bounded.{and-left, and-right, and-both, unless-true, clash}
+use Rattle.atl.specs.Marking.{unset, secures, force, swept}
+use Rattle.atl.proofs.Bounded.{and-left, and-right, and-both, unless-true, clash, some-cong, every-cong}
 use Rattle.atl.proofs.Play as play
 use Rattle.atl.proofs.Spread as spread
 use Rattle.marking.specs.Table.{inTables, Tables}
@@ -35,6 +35,23 @@ module _ (G : Game) (law : IsGame G) (a : States) where
     where
       back : spread.Holds (G .states) (λ j. not (w j)) (λ j. not (v j))
       back j l q = ap not (unless-true _ (λ m. clash (f j l m) (not-true _ q)))
+
+-- what the rule says of a position depends only on where it leads
+module _ (G : Game) where
+  force-near : (v w : States) (i : ℕ) → ((j : ℕ) → j < G .moves i → v (G .to i j) ≡ w (G .to i j)) → force G v i ≡ force G w i
+  unfolding force secures
+  force-near v w i f = some-cong (G .moves i) _ _ (λ j l. every-cong (G .moves i) _ _ (λ k m. ap (λ (x : Bool). not (G .agree i j k) || x) (f k m)))
+
+  rule-near : (want : Bool) (a v w : States) (i : ℕ) → ((j : ℕ) → j < G .moves i → v (G .to i j) ≡ w (G .to i j)) → rule G want a v i ≡ rule G want a w i
+  unfolding rule
+  rule-near true a v w i f = ap (λ (x : Bool). a i && x) (force-near v w i f)
+  rule-near false a v w i f = ap (λ (x : Bool). a i && not x) (force-near (λ j. not (v j)) (λ j. not (w j)) i (λ j l. ap not (f j l)))
+
+module _ {n : ℕ} {starts successors classes : List ℕ} (s : Tables n starts successors classes) (want : Bool) (a : States) where
+  -- the rule asks only of the n positions
+  pub rule-cong : (v w : States) → ((i : ℕ) → i < n → v i ≡ w i) → (i : ℕ) → i < n
+      → rule (inTables n starts successors classes) want a v i ≡ rule (inTables n starts successors classes) want a w i
+  rule-cong v w f i h = rule-near (inTables n starts successors classes) want a v w i (λ j l. f _ (is-game n starts successors classes s .stays i j h l))
 
 -- the table after r sweeps
 module _ {n : ℕ} {starts successors classes : List ℕ} (s : Tables n starts successors classes) (small : n < unset) (want : Bool) (a b : States) where

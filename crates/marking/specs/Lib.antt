@@ -2,5 +2,3 @@
 pub mod Table
 pub mod Flags
 pub mod Rule
-pub mod Walk
-pub mod Kinds

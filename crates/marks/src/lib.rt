@@ -13,10 +13,10 @@ ghost use Rattle.marking.specs.Rule.{bits};
 ghost use Rattle.marks.specs.Noted.{noted};
 ghost use Rattle.marks.specs.Model.{positionsLimit, jointsLimit, Model, inCounts};
 ghost use Rattle.marks.specs.Node.{timed, countsIn, turned, joined};
+use backward::count_rounds;
 use facts::FactSet;
 use marking::begin;
 use marking::bit;
-use marking::count_rounds;
 use marking::holds_at;
 use marking::plan;
 use marking::within;
@@ -116,15 +116,15 @@ fn mark_forced(
     classes: &[u16],
     table: &[u16],
     k: u8,
-    flags: &mut [u8],
+    work: &mut [u16],
     marks: &mut [u64],
 )
-    requires { ⌜ Tables n (now starts) (now successors) (now classes) × (n ≤ length (now table)) × (length (now successors) ≤ length (now flags)) × (n ≤ length (now marks)) × (k < 64) ⌝ }
+    requires { ⌜ Tables n (now starts) (now successors) (now classes) × (n ≤ length (now table)) × (length (now successors) ≤ length (now work)) × (n ≤ length (now marks)) × (k < 64) ⌝ }
     ensures { λ _. ⌜ now (marks .exit) ≡ noted n k (force (inTables n (now (starts .entry)) (now (successors .entry)) (now (classes .entry))) (counted (now (table .entry)) 0)) (now (marks .entry)) ⌝ }
 {
     let mut i = 0;
     while i < n {
-        let on = holds_at(n, starts, successors, classes, table, 0, true, i, flags);
+        let on = holds_at(n, starts, successors, classes, table, 0, true, i, work);
         mark(marks, k, i, on);
         i += 1;
     }
@@ -141,16 +141,16 @@ fn mark_next(
     k: u8,
     marks: &mut [u64],
     classes: &mut [u16],
-    flags: &mut [u8],
+    work: &mut [u16],
     table: &mut [u16],
 )
     requires { ⌜ Model positionsLimit jointsLimit n (now starts) (now successors) (now counts) × (n ≤ length (now marks)) × (k < 64)
-        × (jointsLimit ≤ length (now classes)) × (jointsLimit ≤ length (now flags)) × (positionsLimit ≤ length (now table)) ⌝ }
+        × (jointsLimit ≤ length (now classes)) × (jointsLimit ≤ length (now work)) × (positionsLimit ≤ length (now table)) ⌝ }
     ensures { λ _. ⌜ now (marks .exit) ≡ noted n k (force (inCounts n (now (starts .entry)) (now (successors .entry)) (now (counts .entry)) mask) (bits (now (marks .entry)) a)) (now (marks .entry)) ⌝ }
 {
     fill_classes(n, starts, counts, mask, classes);
     begin(n, marks, a, true, &mut table[..n]);
-    mark_forced(n, starts, successors, classes, table, k, flags, marks);
+    mark_forced(n, starts, successors, classes, table, k, work, marks);
 }
 
 // UNTIL (`want`, `bound`), EVENTUALLY (`want`) and ALWAYS (neither), for the coalition `mask`, of nodes `a` and `b`: the counts, and bit `k`.
@@ -160,6 +160,7 @@ fn mark_spread(
     successors: &[u16],
     counts: &[u16],
     froms: &[u16],
+    index: &[u16],
     owners: &[u16],
     mask: u8,
     want: bool,
@@ -170,11 +171,11 @@ fn mark_spread(
     marks: &mut [u64],
     rounds: &mut [u16],
     classes: &mut [u16],
-    flags: &mut [u8],
+    work: &mut [u16],
 )
     requires { ⌜ Model positionsLimit jointsLimit n (now starts) (now successors) (now counts) × (n ≤ length (now marks)) × (n ≤ length (now rounds)) × (k < 64)
-        × Incoming n (now starts) (now successors) (now froms) (now owners)
-        × (jointsLimit ≤ length (now classes)) × (jointsLimit ≤ length (now flags)) ⌝ }
+        × Incoming n (now starts) (now successors) (now froms) (now index) (now owners)
+        × (jointsLimit ≤ length (now classes)) × (jointsLimit ≤ length (now work)) ⌝ }
     ensures { λ _. ⌜ (now (rounds .exit) ≡ countsIn (inCounts n (now (starts .entry)) (now (successors .entry)) (now (counts .entry)) mask) want bound (now (marks .entry)) a b ++ drop n (now (rounds .entry))) × (now (marks .exit) ≡ noted n k (side want (counted (countsIn (inCounts n (now (starts .entry)) (now (successors .entry)) (now (counts .entry)) mask) want bound (now (marks .entry)) a b) n)) (now (marks .entry))) ⌝ }
 {
     fill_classes(n, starts, counts, mask, classes);
@@ -184,6 +185,7 @@ fn mark_spread(
         successors,
         classes,
         froms,
+        index,
         owners,
         marks,
         want,
@@ -191,7 +193,7 @@ fn mark_spread(
         a,
         b,
         &mut rounds[..n],
-        flags,
+        work,
     );
     mark_counts(n, &rounds[..n], want, k, marks);
 }
@@ -206,10 +208,10 @@ fn fill_choices(
     rounds: &[u16],
     choices: &mut [u16],
     classes: &mut [u16],
-    flags: &mut [u8],
+    work: &mut [u16],
 )
     requires { ⌜ Model positionsLimit jointsLimit n (now starts) (now successors) (now counts) × (n ≤ length (now rounds)) × (n ≤ length (now choices))
-        × (jointsLimit ≤ length (now classes)) × (jointsLimit ≤ length (now flags)) ⌝ }
+        × (jointsLimit ≤ length (now classes)) × (jointsLimit ≤ length (now work)) ⌝ }
     ensures { λ _. ⌜ now (choices .exit) ≡ planOf (inCounts n (now (starts .entry)) (now (successors .entry)) (now (counts .entry)) mask) (take n (now (rounds .entry))) ++ drop n (now (choices .entry)) ⌝ }
 {
     fill_classes(n, starts, counts, mask, classes);
@@ -220,7 +222,7 @@ fn fill_choices(
         classes,
         &rounds[..n],
         &mut choices[..n],
-        flags,
+        work,
     );
 }
 
@@ -231,18 +233,19 @@ pub fn mark_future(
     successors: &[u16],
     counts: &[u16],
     froms: &[u16],
+    index: &[u16],
     owners: &[u16],
     mask: u8,
     future: Future,
     k: u8,
     marks: &mut [u64],
     classes: &mut [u16],
-    flags: &mut [u8],
+    work: &mut [u16],
     table: &mut [u16],
 )
     requires { ⌜ Model positionsLimit jointsLimit n (now starts) (now successors) (now counts) × (n ≤ length (now marks)) × (k < 64)
-        × Incoming n (now starts) (now successors) (now froms) (now owners)
-        × (jointsLimit ≤ length (now classes)) × (jointsLimit ≤ length (now flags)) × (positionsLimit ≤ length (now table)) ⌝ }
+        × Incoming n (now starts) (now successors) (now froms) (now index) (now owners)
+        × (jointsLimit ≤ length (now classes)) × (jointsLimit ≤ length (now work)) × (positionsLimit ≤ length (now table)) ⌝ }
     ensures { λ _. ⌜ now (marks .exit) ≡ noted n k (marked (timed (inCounts n (now (starts .entry)) (now (successors .entry)) (now (counts .entry)) mask) (bits (now (marks .entry))) future)) (now (marks .entry)) ⌝ }
 {
     match future {
@@ -256,7 +259,7 @@ pub fn mark_future(
             k,
             marks,
             classes,
-            flags,
+            work,
             table,
         ),
         Future::Always(a) => mark_spread(
@@ -265,6 +268,7 @@ pub fn mark_future(
             successors,
             counts,
             froms,
+            index,
             owners,
             mask,
             false,
@@ -275,7 +279,7 @@ pub fn mark_future(
             marks,
             table,
             classes,
-            flags,
+            work,
         ),
         Future::Eventually(a) => mark_spread(
             n,
@@ -283,6 +287,7 @@ pub fn mark_future(
             successors,
             counts,
             froms,
+            index,
             owners,
             mask,
             true,
@@ -293,7 +298,7 @@ pub fn mark_future(
             marks,
             table,
             classes,
-            flags,
+            work,
         ),
         Future::Until(a, b) => mark_spread(
             n,
@@ -301,6 +306,7 @@ pub fn mark_future(
             successors,
             counts,
             froms,
+            index,
             owners,
             mask,
             true,
@@ -311,7 +317,7 @@ pub fn mark_future(
             marks,
             table,
             classes,
-            flags,
+            work,
         ),
     }
 }
@@ -323,6 +329,7 @@ pub fn mark_last(
     successors: &[u16],
     counts: &[u16],
     froms: &[u16],
+    index: &[u16],
     owners: &[u16],
     mask: u8,
     a: u8,
@@ -331,11 +338,11 @@ pub fn mark_last(
     rounds: &mut [u16],
     choices: &mut [u16],
     classes: &mut [u16],
-    flags: &mut [u8],
+    work: &mut [u16],
 )
     requires { ⌜ Model positionsLimit jointsLimit n (now starts) (now successors) (now counts) × (n ≤ length (now marks)) × (n ≤ length (now rounds)) × (n ≤ length (now choices)) × (k < 64)
-        × Incoming n (now starts) (now successors) (now froms) (now owners)
-        × (jointsLimit ≤ length (now classes)) × (jointsLimit ≤ length (now flags)) ⌝ }
+        × Incoming n (now starts) (now successors) (now froms) (now index) (now owners)
+        × (jointsLimit ≤ length (now classes)) × (jointsLimit ≤ length (now work)) ⌝ }
     ensures { λ _. ⌜ (now (rounds .exit) ≡ roundsOf (inCounts n (now (starts .entry)) (now (successors .entry)) (now (counts .entry)) mask) everything (bits (now (marks .entry)) a) ++ drop n (now (rounds .entry))) × (now (choices .exit) ≡ planOf (inCounts n (now (starts .entry)) (now (successors .entry)) (now (counts .entry)) mask) (roundsOf (inCounts n (now (starts .entry)) (now (successors .entry)) (now (counts .entry)) mask) everything (bits (now (marks .entry)) a)) ++ drop n (now (choices .entry))) × (now (marks .exit) ≡ noted n k (marked (eventuallyOf (inCounts n (now (starts .entry)) (now (successors .entry)) (now (counts .entry)) mask) (bits (now (marks .entry)) a))) (now (marks .entry))) ⌝ }
 {
     mark_spread(
@@ -344,6 +351,7 @@ pub fn mark_last(
         successors,
         counts,
         froms,
+        index,
         owners,
         mask,
         true,
@@ -354,7 +362,7 @@ pub fn mark_last(
         marks,
         rounds,
         classes,
-        flags,
+        work,
     );
     fill_choices(
         n,
@@ -365,6 +373,6 @@ pub fn mark_last(
         rounds,
         choices,
         classes,
-        flags,
+        work,
     );
 }

@@ -83,7 +83,8 @@ module _ {s : List ℕ} {y : Layout} {n : ℕ} {states views starting following 
   modelled = tables.modelled model four distinct
 
   -- what is asked to index who leads where
-  pub leads-ask : Moves n starting following × (length following ≤ 8192) × (n < 1025) × (n < length (replicate {A = ℕ} 1025 0)) × (length following ≤ length (replicate {A = ℕ} 8192 0))
+  pub leads-ask : Moves n starting following × (length following ≤ 8192) × (n < 1025) × (n < length (replicate {A = ℕ} 1025 0))
+      × (length following ≤ length (replicate {A = ℕ} 8192 0)) × (length following ≤ length (replicate {A = ℕ} 8192 0))
   leads-ask = (
     record {
       placed = modelled .placed;
@@ -93,6 +94,7 @@ module _ {s : List ℕ} {y : Layout} {n : ℕ} {states views starting following 
     modelled .fits,
     omega (arith, modelled .few),
     omega (arith, modelled .few, length-replicate {A = ℕ} 1025 0),
+    omega (arith, modelled .fits, length-replicate {A = ℕ} 8192 0),
     omega (arith, modelled .fits, length-replicate {A = ℕ} 8192 0),
   )
 

@@ -102,16 +102,17 @@ fn mark_node(
     successors: &[u16],
     counts: &[u16],
     froms: &[u16],
+    index: &[u16],
     owners: &[u16],
     k: u8,
     marks: &mut [u64],
     classes: &mut [u16],
-    flags: &mut [u8],
+    work: &mut [u16],
     table: &mut [u16],
 )
     requires { ⌜ Ready (now s) y n (now states) (now views) (now starts) (now successors) (now counts) × (k < y .nodes) × (now marks ≡ marksTo (sheetIn (now s) y) (take n (now states)) k)
-        × Incoming n (now starts) (now successors) (now froms) (now owners)
-        × (jointsLimit ≤ length (now classes)) × (jointsLimit ≤ length (now flags)) × (positionsLimit ≤ length (now table)) ⌝ }
+        × Incoming n (now starts) (now successors) (now froms) (now index) (now owners)
+        × (jointsLimit ≤ length (now classes)) × (jointsLimit ≤ length (now work)) × (positionsLimit ≤ length (now table)) ⌝ }
     ensures { λ _. ⌜ now (marks .exit) ≡ marksTo (sheetIn (now (s .entry)) y) (take n (now (states .entry))) (k + 1) ⌝ }
 {
     let q = asked_at(s, y, k);
@@ -125,13 +126,14 @@ fn mark_node(
             successors,
             counts,
             froms,
+            index,
             owners,
             c,
             f,
             k,
             marks,
             classes,
-            flags,
+            work,
             table,
         ),
         Question::True => mark_test(s, y, n, states, views, q, k, marks),
@@ -155,15 +157,16 @@ fn mark_first(
     successors: &[u16],
     counts: &[u16],
     froms: &[u16],
+    index: &[u16],
     owners: &[u16],
     marks: &mut [u64],
     classes: &mut [u16],
-    flags: &mut [u8],
+    work: &mut [u16],
     table: &mut [u16],
 )
     requires { ⌜ Ready (now s) y n (now states) (now views) (now starts) (now successors) (now counts) × (now marks ≡ pad stateLimit [])
-        × Incoming n (now starts) (now successors) (now froms) (now owners)
-        × (jointsLimit ≤ length (now classes)) × (jointsLimit ≤ length (now flags)) × (positionsLimit ≤ length (now table)) ⌝ }
+        × Incoming n (now starts) (now successors) (now froms) (now index) (now owners)
+        × (jointsLimit ≤ length (now classes)) × (jointsLimit ≤ length (now work)) × (positionsLimit ≤ length (now table)) ⌝ }
     ensures { λ _. ⌜ now (marks .exit) ≡ marksTo (sheetIn (now (s .entry)) y) (take n (now (states .entry))) (y .nodes - 1) ⌝ }
 {
     let last = y.nodes - 1;
@@ -179,11 +182,12 @@ fn mark_first(
             successors,
             counts,
             froms,
+            index,
             owners,
             k,
             marks,
             classes,
-            flags,
+            work,
             table,
         );
         k += 1;
@@ -232,18 +236,19 @@ fn mark_end(
     successors: &[u16],
     counts: &[u16],
     froms: &[u16],
+    index: &[u16],
     owners: &[u16],
     marks: &mut [u64],
     rounds: &mut [u16],
     choices: &mut [u16],
     classes: &mut [u16],
-    flags: &mut [u8],
+    work: &mut [u16],
     table: &mut [u16],
 )
     requires { ⌜ Ready (now s) y n (now states) (now views) (now starts) (now successors) (now counts) × (now marks ≡ marksTo (sheetIn (now s) y) (take n (now states)) (y .nodes - 1))
         × (now rounds ≡ pad stateLimit []) × (now choices ≡ pad stateLimit [])
-        × Incoming n (now starts) (now successors) (now froms) (now owners)
-        × (jointsLimit ≤ length (now classes)) × (jointsLimit ≤ length (now flags)) × (positionsLimit ≤ length (now table)) ⌝ }
+        × Incoming n (now starts) (now successors) (now froms) (now index) (now owners)
+        × (jointsLimit ≤ length (now classes)) × (jointsLimit ≤ length (now work)) × (positionsLimit ≤ length (now table)) ⌝ }
     ensures { λ _. ⌜ (now (marks .exit) ≡ marksTo (sheetIn (now (s .entry)) y) (take n (now (states .entry))) (y .nodes))
         × (now (rounds .exit) ≡ pad stateLimit (answer (rulesOf (sheetIn (now (s .entry)) y)) (nodesOf (sheetIn (now (s .entry)) y)) (take n (now (states .entry))) .rounds))
         × (now (choices .exit) ≡ pad stateLimit (answer (rulesOf (sheetIn (now (s .entry)) y)) (nodesOf (sheetIn (now (s .entry)) y)) (take n (now (states .entry))) .choices)) ⌝ }
@@ -258,6 +263,7 @@ fn mark_end(
             successors,
             counts,
             froms,
+            index,
             owners,
             c,
             a,
@@ -266,7 +272,7 @@ fn mark_end(
             rounds,
             choices,
             classes,
-            flags,
+            work,
         ),
         Goal::Other => mark_node(
             s,
@@ -278,11 +284,12 @@ fn mark_end(
             successors,
             counts,
             froms,
+            index,
             owners,
             k,
             marks,
             classes,
-            flags,
+            work,
             table,
         ),
     }
@@ -307,10 +314,11 @@ pub fn answer(
     ensures { λ r. ⌜ Answered (answer (rulesOf (sheetIn (now (s .entry)) y)) (nodesOf (sheetIn (now (s .entry)) y)) (take n (now (states .entry)))) r (now (marks .exit)) (now (rounds .exit)) (now (choices .exit)) ⌝ }
 {
     let mut froms = [0u16; 1025];
+    let mut index = [0u16; 8192];
     let mut owners = [0u16; 8192];
-    build_incoming(n, starts, successors, &mut froms, &mut owners);
+    build_incoming(n, starts, successors, &mut froms, &mut index, &mut owners);
     let mut classes = [0u16; 8192];
-    let mut flags = [0u8; 8192];
+    let mut work = [0u16; 8192];
     let mut table = [0u16; 1024];
     mark_first(
         s,
@@ -322,10 +330,11 @@ pub fn answer(
         successors,
         counts,
         &froms,
+        &index,
         &owners,
         marks,
         &mut classes,
-        &mut flags,
+        &mut work,
         &mut table,
     );
     mark_end(
@@ -338,12 +347,13 @@ pub fn answer(
         successors,
         counts,
         &froms,
+        &index,
         &owners,
         marks,
         rounds,
         choices,
         &mut classes,
-        &mut flags,
+        &mut work,
         &mut table,
     );
     let last = y.nodes - 1;

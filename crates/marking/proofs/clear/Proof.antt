@@ -17,6 +17,9 @@ abbrev μ-loop : tie.MeasureT-loop
 loop-holds : tie.Need-loop-holds Inv-loop μ-loop
 loop-holds c = (search needs, filled-none (λ x. 0) (c .args .flags .now))
 
+mul-flags : tie.Need-mul-flags Inv-loop μ-loop
+mul-flags c = search needs
+
 slice-write-flags : tie.Need-slice-write-flags Inv-loop μ-loop
 slice-write-flags c =
     let loop = c .before .loop in
@@ -51,6 +54,7 @@ clear-spec =
     Inv-loop
     μ-loop
     loop-holds
+    mul-flags
     slice-write-flags
     add-k
     loop-less

@@ -8,6 +8,9 @@ use Rattle.marking.proofs.strike_one.Tie as tie
 within-requires : tie.Need-within-requires
 within-requires c κs = search needs
 
+mul-flags : tie.Need-mul-flags
+mul-flags c = search needs
+
 slice-write-flags : tie.Need-slice-write-flags
 slice-write-flags c = search needs
 
@@ -28,4 +31,4 @@ returns-2 c =
 
 pub strike-one-spec : {M : Type 1} → statement M
 strike-one-spec =
-    tie.close (tie.spec within-requires slice-write-flags same-length returns returns-2)
+    tie.close (tie.spec within-requires mul-flags slice-write-flags same-length returns returns-2)

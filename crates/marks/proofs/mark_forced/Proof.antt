@@ -14,10 +14,10 @@ use Rattle.marks.proofs.mark_forced.Statement.{statement}
 use Rattle.marks.proofs.mark_forced.Tie as tie
 
 abbrev Inv-loop : tie.InvT-loop
-Inv-loop n starts successors classes table k flags₀ marks₀ i₀ flags marks i = (i ≤ n) × (marks ≡ filled (entry k (force (inTables n starts successors classes) (counted table 0)) marks₀) marks₀ i) × (length flags ≡ length flags₀)
+Inv-loop n starts successors classes table k work₀ marks₀ i₀ work marks i = (i ≤ n) × (marks ≡ filled (entry k (force (inTables n starts successors classes) (counted table 0)) marks₀) marks₀ i) × (length work ≡ length work₀)
 
 abbrev μ-loop : tie.MeasureT-loop
-μ-loop n starts successors classes table k flags₀ marks₀ i₀ flags marks i = n - i
+μ-loop n starts successors classes table k work₀ marks₀ i₀ work marks i = n - i
 
 loop-holds : tie.Need-loop-holds Inv-loop μ-loop
 loop-holds c =

@@ -16,19 +16,19 @@ enum-known-future-2 : tie.Need-enum-known-future-2
 enum-known-future-2 c = search needs
 
 mark-spread-requires : tie.Need-mark-spread-requires
-mark-spread-requires c κs = let pre = c .before .before .before .before .before .before .before .before .before .before .before .before .before .before .before .before .pre in (pre .0, pre .1, omega (arith, pre .0 .few, pre .6), pre .2, pre .3, pre .4, pre .5)
+mark-spread-requires c κs = let pre = c .before .before .before .before .before .before .before .before .before .before .before .before .before .before .before .before .before .pre in (pre .0, pre .1, omega (arith, pre .0 .few, pre .6), pre .2, pre .3, pre .4, pre .5)
 
 enum-known-future-3 : tie.Need-enum-known-future-3
 enum-known-future-3 c = search needs
 
 mark-spread-requires-2 : tie.Need-mark-spread-requires-2
-mark-spread-requires-2 c κs = let pre = c .before .before .before .before .before .before .before .before .before .before .before .before .before .before .before .before .pre in (pre .0, pre .1, omega (arith, pre .0 .few, pre .6), pre .2, pre .3, pre .4, pre .5)
+mark-spread-requires-2 c κs = let pre = c .before .before .before .before .before .before .before .before .before .before .before .before .before .before .before .before .before .pre in (pre .0, pre .1, omega (arith, pre .0 .few, pre .6), pre .2, pre .3, pre .4, pre .5)
 
 enum-known-future-4 : tie.Need-enum-known-future-4
 enum-known-future-4 c = search needs
 
 mark-spread-requires-3 : tie.Need-mark-spread-requires-3
-mark-spread-requires-3 c κs = let pre = c .before .before .before .before .before .before .before .before .before .before .before .before .before .before .before .before .pre in (pre .0, pre .1, omega (arith, pre .0 .few, pre .6), pre .2, pre .3, pre .4, pre .5)
+mark-spread-requires-3 c κs = let pre = c .before .before .before .before .before .before .before .before .before .before .before .before .before .before .before .before .before .pre in (pre .0, pre .1, omega (arith, pre .0 .few, pre .6), pre .2, pre .3, pre .4, pre .5)
 
 same-length : tie.Need-same-length
 same-length c = search needs
@@ -44,7 +44,7 @@ same-length-4 c = search needs
 
 returns : tie.Need-returns
 returns c =
-    let args = c .before .before .before .before .before .before .before .before .before .before .before .before .before .before .before .before .before .before .before .before .before .before .before .before .before .args in
+    let args = c .before .before .before .before .before .before .before .before .before .before .before .before .before .before .before .before .before .before .before .before .before .before .before .before .before .before .args in
     timed-next (inCounts (args .n) (args .starts .now) (args .successors .now) (args .counts .now) (args .mask)) (args .k) (args .marks .now) _
     (args .future) _ (c .before .before .before .before .before .before .before .before .before .before .before .before .before .before .future .given .1) (c .before .before .before .before .before .before .before .before .mark-next .ensures)
 
@@ -62,7 +62,7 @@ same-length-8 c = search needs
 
 returns-2 : tie.Need-returns-2
 returns-2 c =
-    let args = c .before .before .before .before .before .before .before .before .before .before .before .before .before .before .before .before .before .before .before .before .before .before .before .before .before .args in
+    let args = c .before .before .before .before .before .before .before .before .before .before .before .before .before .before .before .before .before .before .before .before .before .before .before .before .before .before .args in
     timed-always (inCounts (args .n) (args .starts .now) (args .successors .now) (args .counts .now) (args .mask)) (args .k) (args .marks .now) _
     (args .future) _ (c .before .before .before .before .before .before .before .before .before .before .before .before .before .before .future2 .given .1) (c .before .before .before .before .before .before .before .before .mark-spread .ensures .1)
 
@@ -80,7 +80,7 @@ same-length-12 c = search needs
 
 returns-3 : tie.Need-returns-3
 returns-3 c =
-    let args = c .before .before .before .before .before .before .before .before .before .before .before .before .before .before .before .before .before .before .before .before .before .before .before .before .before .args in
+    let args = c .before .before .before .before .before .before .before .before .before .before .before .before .before .before .before .before .before .before .before .before .before .before .before .before .before .before .args in
     timed-eventually (inCounts (args .n) (args .starts .now) (args .successors .now) (args .counts .now) (args .mask)) (args .k) (args .marks .now) _
     (args .future) _ (c .before .before .before .before .before .before .before .before .before .before .before .before .before .before .future3 .given .1) (c .before .before .before .before .before .before .before .before .mark-spread2 .ensures .1)
 
@@ -98,7 +98,7 @@ same-length-16 c = search needs
 
 returns-4 : tie.Need-returns-4
 returns-4 c =
-    let args = c .before .before .before .before .before .before .before .before .before .before .before .before .before .before .before .before .before .before .before .before .before .before .before .before .before .args in
+    let args = c .before .before .before .before .before .before .before .before .before .before .before .before .before .before .before .before .before .before .before .before .before .before .before .before .before .before .args in
     timed-until (inCounts (args .n) (args .starts .now) (args .successors .now) (args .counts .now) (args .mask)) (args .k) (args .marks .now) _
     (args .future) _ _ (c .before .before .before .before .before .before .before .before .before .before .before .before .before .before .future4 .given .1) (c .before .before .before .before .before .before .before .before .mark-spread3 .ensures .1)
 

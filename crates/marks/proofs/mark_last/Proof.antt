@@ -14,7 +14,7 @@ mark-spread-requires c κs = search needs
 
 fill-choices-requires : tie.Need-fill-choices-requires
 fill-choices-requires c κs =
-    let pre = c .before .before .before .before .before .before .before .before .before .before .before .before .before .before .before .before .before .before .before .before .before .before .before .before .before .before .before .pre in
+    let pre = c .before .before .before .before .before .before .before .before .before .before .before .before .before .before .before .before .before .before .before .before .before .before .before .before .before .before .before .before .pre in
     let tables = c .before .before .before .before .before .before .before .before .before .before .before .before .mark-spread .kept .1 .1 .1 .1 .1 .1 .1 .1 .1 .1 .1 .1 .1 in
     (pre .0, omega (arith, tables .0, pre .2), pre .3, omega (arith, tables .1 .0, pre .6), omega (arith, tables .1 .1 .0, pre .7))
 
@@ -35,7 +35,7 @@ same-length-5 c = search needs
 
 returns : tie.Need-returns
 returns c =
-    let args = c .before .before .before .before .before .before .before .before .before .before .before .before .before .before .before .before .before .before .before .before .before .before .before .before .before .before .before .before .before .before .before .before .before .before .args in
+    let args = c .before .before .before .before .before .before .before .before .before .before .before .before .before .before .before .before .before .before .before .before .before .before .before .before .before .before .before .before .before .before .before .before .before .before .before .args in
     let mark-spread = c .before .before .before .before .before .before .before .before .before .before .before .before .before .before .before .before .before .before .before .mark-spread in
     let e = counts-eventually (inCounts (args .n) (args .starts .now) (args .successors .now) (args .counts .now) (args .mask)) (args .marks .now)
     (args .a) in (

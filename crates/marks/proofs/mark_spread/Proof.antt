@@ -14,8 +14,8 @@ use Rattle.marks.proofs.mark_spread.Tie as tie
 
 fill-classes-requires : tie.Need-fill-classes-requires
 fill-classes-requires c κs =
-    let pre = c .before .before .before .before .before .before .before .before .before .before .pre in
-    let args = c .before .before .before .before .before .before .before .before .before .before .args in
+    let pre = c .before .before .before .before .before .before .before .before .before .before .before .pre in
+    let args = c .before .before .before .before .before .before .before .before .before .before .before .args in
     classes-asks (pre .0) (args .mask) (args .classes .now) (pre .5)
 
 slice-relend-prefix-count-rounds : tie.Need-slice-relend-prefix-count-rounds
@@ -23,14 +23,14 @@ slice-relend-prefix-count-rounds c = search needs
 
 slice-aggregate-count-rounds : tie.Need-slice-aggregate-count-rounds
 slice-aggregate-count-rounds c =
-    let pre = c .before .before .before .before .before .before .before .before .before .before .before .before .before .before .before .before .pre in
-    let args = c .before .before .before .before .before .before .before .before .before .before .before .before .before .before .before .before .args in
+    let pre = c .before .before .before .before .before .before .before .before .before .before .before .before .before .before .before .before .before .pre in
+    let args = c .before .before .before .before .before .before .before .before .before .before .before .before .before .before .before .before .before .args in
     sym (length-take-le (args .n) (args .rounds .now) (pre .2))
 
 count-rounds-requires : tie.Need-count-rounds-requires
 count-rounds-requires c κs =
-    let pre = c .before .before .before .before .before .before .before .before .before .before .before .before .before .before .before .before .before .pre in
-    let args = c .before .before .before .before .before .before .before .before .before .before .before .before .before .before .before .before .before .args in (
+    let pre = c .before .before .before .before .before .before .before .before .before .before .before .before .before .before .before .before .before .before .pre in
+    let args = c .before .before .before .before .before .before .before .before .before .before .before .before .before .before .before .before .before .before .args in (
       tables (pre .0) (args .mask) (args .classes .now) (pre .5) _ (c .before .before .before .before .before .before .fill-classes .ensures),
       pre .4,
       length-take-le (args .n) (args .rounds .now) (pre .2),
@@ -44,13 +44,13 @@ slice-reshare-prefix-mark-counts c = search needs
 
 slice-aggregate-mark-counts : tie.Need-slice-aggregate-mark-counts
 slice-aggregate-mark-counts c =
-    let args = c .before .before .before .before .before .before .before .before .before .before .before .before .before .before .before .before .before .before .before .before .before .before .before .args in
+    let args = c .before .before .before .before .before .before .before .before .before .before .before .before .before .before .before .before .before .before .before .before .before .before .before .before .args in
     sym (back-length (args .n) _ _ (args .n) (args .rounds .now) _ (c .before .before .before .before .before .count-rounds .ensures))
 
 mark-counts-requires : tie.Need-mark-counts-requires
 mark-counts-requires c κs =
-    let pre = c .before .before .before .before .before .before .before .before .before .before .before .before .before .before .before .before .before .before .before .before .before .before .before .before .pre in
-    let args = c .before .before .before .before .before .before .before .before .before .before .before .before .before .before .before .before .before .before .before .before .before .before .before .before .args in
+    let pre = c .before .before .before .before .before .before .before .before .before .before .before .before .before .before .before .before .before .before .before .before .before .before .before .before .before .pre in
+    let args = c .before .before .before .before .before .before .before .before .before .before .before .before .before .before .before .before .before .before .before .before .before .before .before .before .before .args in
     let z = back-length (args .n) _ _ (args .n) (args .rounds .now) _ (c .before .before .before .before .before .before .count-rounds .ensures) in
     (omega arith, pre .1, omega (arith, pre .0 .few), pre .3)
 
@@ -68,8 +68,8 @@ same-length-4 c = search needs
 
 returns : tie.Need-returns
 returns c =
-    let pre = c .before .before .before .before .before .before .before .before .before .before .before .before .before .before .before .before .before .before .before .before .before .before .before .before .before .before .before .pre in
-    let args = c .before .before .before .before .before .before .before .before .before .before .before .before .before .before .before .before .before .before .before .before .before .before .before .before .before .before .before .args in
+    let pre = c .before .before .before .before .before .before .before .before .before .before .before .before .before .before .before .before .before .before .before .before .before .before .before .before .before .before .before .before .pre in
+    let args = c .before .before .before .before .before .before .before .before .before .before .before .before .before .before .before .before .before .before .before .before .before .before .before .before .before .before .before .before .args in
     let count-rounds = c .before .before .before .before .before .before .before .before .before .count-rounds in
     let e = same-counts (pre .0) (args .mask) (args .classes .now) (pre .5) _ (c .before .before .before .before .before .before .before .before .before .before .before .before .before .before .before .before .fill-classes .ensures) (args .want)
     (args .bound) (args .marks .now) (args .a) (args .b) _ (count-rounds .ensures) in (

@@ -14,8 +14,13 @@ slice-aggregate-build-incoming c = search needs
 slice-aggregate-build-incoming-2 : tie.Need-slice-aggregate-build-incoming-2
 slice-aggregate-build-incoming-2 c = search needs
 
+slice-aggregate-build-incoming-3 : tie.Need-slice-aggregate-build-incoming-3
+slice-aggregate-build-incoming-3 c = search needs
+
 build-incoming-requires : tie.Need-build-incoming-requires
-build-incoming-requires c κs = leads-ask (begun (c .before .before .before .before .before .before .before .before .before .before .before .pre .0))
+build-incoming-requires c κs =
+    let pre = c .before .before .before .before .before .before .before .before .before .before .before .before .pre in
+    leads-ask (begun (pre .0))
 
 slice-aggregate-mark-first : tie.Need-slice-aggregate-mark-first
 slice-aggregate-mark-first c = search needs
@@ -32,10 +37,14 @@ slice-aggregate-mark-first-4 c = search needs
 slice-aggregate-mark-first-5 : tie.Need-slice-aggregate-mark-first-5
 slice-aggregate-mark-first-5 c = search needs
 
+slice-aggregate-mark-first-6 : tie.Need-slice-aggregate-mark-first-6
+slice-aggregate-mark-first-6 c = search needs
+
 mark-first-requires : tie.Need-mark-first-requires
 mark-first-requires c κs =
-    let pre = c .before .before .before .before .before .before .before .before .before .before .before .before .before .before .before .before .before .before .before .before .pre in
-    (begun (pre .0), pre .1, c .before .before .before .before .before .before .before .before .build-incoming .ensures .0, search needs, search needs, search needs)
+    let pre = c .before .before .before .before .before .before .before .before .before .before .before .before .before .before .before .before .before .before .before .before .before .before .before .pre in
+    let build-incoming = c .before .before .before .before .before .before .before .before .before .before .build-incoming in
+    (begun (pre .0), pre .1, build-incoming .ensures .0, search needs, search needs, search needs)
 
 slice-aggregate-mark-end : tie.Need-slice-aggregate-mark-end
 slice-aggregate-mark-end c = search needs
@@ -52,20 +61,26 @@ slice-aggregate-mark-end-4 c = search needs
 slice-aggregate-mark-end-5 : tie.Need-slice-aggregate-mark-end-5
 slice-aggregate-mark-end-5 c = search needs
 
+slice-aggregate-mark-end-6 : tie.Need-slice-aggregate-mark-end-6
+slice-aggregate-mark-end-6 c = search needs
+
 mark-end-requires : tie.Need-mark-end-requires
 mark-end-requires c κs =
-    let pre = c .before .before .before .before .before .before .before .before .before .before .before .before .before .before .before .before .before .before .before .before .before .before .before .before .before .before .before .before .before .before .before .before .before .before .pre in
-    (begun (pre .0), c .before .before .before .before .before .before .before .before .before .before .before .before .before .mark-first .ensures, pre .2, pre .3, c .before .before .before .before .before .before .before .before .before .before .before .before .before .before .before .before .before .before .before .before .before .before .build-incoming .ensures .0, search needs, search needs, search needs)
+    let pre = c .before .before .before .before .before .before .before .before .before .before .before .before .before .before .before .before .before .before .before .before .before .before .before .before .before .before .before .before .before .before .before .before .before .before .before .before .before .before .pre in
+    let mark-first = c .before .before .before .before .before .before .before .before .before .before .before .before .before .before .mark-first in
+    let build-incoming = c .before .before .before .before .before .before .before .before .before .before .before .before .before .before .before .before .before .before .before .before .before .before .before .before .before .build-incoming in
+    (begun (pre .0), mark-first .ensures, pre .2, pre .3, build-incoming .ensures .0, search needs, search needs, search needs)
 
 sub-last : tie.Need-sub-last
 sub-last c =
-    let pre = c .before .before .before .before .before .before .before .before .before .before .before .before .before .before .before .before .before .before .before .before .before .before .before .before .before .before .before .before .before .before .before .before .before .before .before .before .before .before .before .before .before .before .before .before .before .pre in
+    let pre = c .before .before .before .before .before .before .before .before .before .before .before .before .before .before .before .before .before .before .before .before .before .before .before .before .before .before .before .before .before .before .before .before .before .before .before .before .before .before .before .before .before .before .before .before .before .before .before .before .before .pre in
     let z = some-node _ _ (pre .0 .sheet) in omega arith
 
 bit-requires : tie.Need-bit-requires
 bit-requires c κs =
-    let pre = c .before .before .before .before .before .before .before .before .before .before .before .before .before .before .before .before .before .before .before .before .before .before .before .before .before .before .before .before .before .before .before .before .before .before .before .before .before .before .before .before .before .before .before .before .before .before .pre in
-    marks-some (begun (pre .0)) (c .before .before .before .before .before .before .before .before .before .before .before .mark-end .ensures .0)
+    let pre = c .before .before .before .before .before .before .before .before .before .before .before .before .before .before .before .before .before .before .before .before .before .before .before .before .before .before .before .before .before .before .before .before .before .before .before .before .before .before .before .before .before .before .before .before .before .before .before .before .before .before .pre in
+    let mark-end = c .before .before .before .before .before .before .before .before .before .before .before .mark-end in
+    marks-some (begun (pre .0)) (mark-end .ensures .0)
 
 same-length : tie.Need-same-length
 same-length c = search needs
@@ -78,7 +93,7 @@ same-length-3 c = search needs
 
 returns : tie.Need-returns
 returns c =
-    let pre = c .before .before .before .before .before .before .before .before .before .before .before .before .before .before .before .before .before .before .before .before .before .before .before .before .before .before .before .before .before .before .before .before .before .before .before .before .before .before .before .before .before .before .before .before .before .before .before .pre in
+    let pre = c .before .before .before .before .before .before .before .before .before .before .before .before .before .before .before .before .before .before .before .before .before .before .before .before .before .before .before .before .before .before .before .before .before .before .before .before .before .before .before .before .before .before .before .before .before .before .before .before .before .before .before .pre in
     let mark-end = c .before .before .before .before .before .before .before .before .before .before .before .before .mark-end in
     let ready = begun (pre .0) in record {
       marks-are = marks-all ready _ (mark-end .ensures .0);
@@ -93,18 +108,21 @@ answer-spec =
     (tie.spec
     slice-aggregate-build-incoming
     slice-aggregate-build-incoming-2
+    slice-aggregate-build-incoming-3
     build-incoming-requires
     slice-aggregate-mark-first
     slice-aggregate-mark-first-2
     slice-aggregate-mark-first-3
     slice-aggregate-mark-first-4
     slice-aggregate-mark-first-5
+    slice-aggregate-mark-first-6
     mark-first-requires
     slice-aggregate-mark-end
     slice-aggregate-mark-end-2
     slice-aggregate-mark-end-3
     slice-aggregate-mark-end-4
     slice-aggregate-mark-end-5
+    slice-aggregate-mark-end-6
     mark-end-requires
     sub-last
     bit-requires

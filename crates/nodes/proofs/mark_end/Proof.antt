@@ -11,13 +11,13 @@ use Rattle.nodes.proofs.mark_end.Tie as tie
 
 sub-k : tie.Need-sub-k
 sub-k c =
-    let pre = c .before .before .before .before .before .before .before .before .before .before .before .before .before .before .before .pre in
+    let pre = c .before .before .before .before .before .before .before .before .before .before .before .before .before .before .before .before .pre in
     let z = some-node _ _ (pre .0 .asked .sheet) in omega arith
 
 asked-at-requires : tie.Need-asked-at-requires
 asked-at-requires c κs =
-    let pre = c .before .before .before .before .before .before .before .before .before .before .before .before .before .before .before .pre in
-    let args = c .before .before .before .before .before .before .before .before .before .before .before .before .before .before .before .args in
+    let pre = c .before .before .before .before .before .before .before .before .before .before .before .before .before .before .before .before .pre in
+    let args = c .before .before .before .before .before .before .before .before .before .before .before .before .before .before .before .before .args in
     node-asks (pre .0) (args .y .nodes - 1) (last-below (pre .0))
 
 goal-of-requires : tie.Need-goal-of-requires
@@ -28,8 +28,8 @@ enum-known-goal c = search needs
 
 mark-last-requires : tie.Need-mark-last-requires
 mark-last-requires c κs =
-    let pre = c .before .before .before .before .before .before .before .before .before .before .before .before .before .before .before .before .before .before .before .before .before .before .before .before .before .pre in
-    let args = c .before .before .before .before .before .before .before .before .before .before .before .before .before .before .before .before .before .before .before .before .before .before .before .before .before .args in
+    let pre = c .before .before .before .before .before .before .before .before .before .before .before .before .before .before .before .before .before .before .before .before .before .before .before .before .before .before .pre in
+    let args = c .before .before .before .before .before .before .before .before .before .before .before .before .before .before .before .before .before .before .before .before .before .before .before .before .before .before .args in
     let (m, a, b, d, e) = last-asks (pre .0) (args .marks .now) (args .rounds .now) (args .choices .now) (pre .1) (pre .2) (pre .3) in
     (m, a, b, d, e, pre .4, pre .5, pre .6)
 
@@ -38,7 +38,7 @@ enum-told c = search needs
 
 mark-node-requires : tie.Need-mark-node-requires
 mark-node-requires c κs =
-    let pre = c .before .before .before .before .before .before .before .before .before .before .before .before .before .before .before .before .before .before .before .before .before .before .before .pre in
+    let pre = c .before .before .before .before .before .before .before .before .before .before .before .before .before .before .before .before .before .before .before .before .before .before .before .before .pre in
     (pre .0, last-below (pre .0), pre .1, pre .4, pre .5, pre .6, pre .7)
 
 same-length : tie.Need-same-length
@@ -58,8 +58,8 @@ same-length-5 c = search needs
 
 returns : tie.Need-returns
 returns c =
-    let pre = c .before .before .before .before .before .before .before .before .before .before .before .before .before .before .before .before .before .before .before .before .before .before .before .before .before .before .before .before .before .before .before .before .before .before .before .before .pre in
-    let args = c .before .before .before .before .before .before .before .before .before .before .before .before .before .before .before .before .before .before .before .before .before .before .before .before .before .before .before .before .before .before .before .before .before .before .before .before .args in
+    let pre = c .before .before .before .before .before .before .before .before .before .before .before .before .before .before .before .before .before .before .before .before .before .before .before .before .before .before .before .before .before .before .before .before .before .before .before .before .before .pre in
+    let args = c .before .before .before .before .before .before .before .before .before .before .before .before .before .before .before .before .before .before .before .before .before .before .before .before .before .before .before .before .before .before .before .before .before .before .before .before .before .args in
     let asked-at = c .before .before .before .before .before .before .before .before .before .before .before .before .before .before .before .before .before .before .before .before .asked-at in
     let mark-last = c .before .before .before .before .before .before .before .before .before .before .mark-last in
     let reaches = sym (c .before .before .before .before .before .before .before .before .before .before .before .before .before .before .before .before .before .before .before .goal-of .ensures) ∙ c .before .before .before .before .before .before .before .before .before .before .before .before .before .before .before .before .before .goal .given .1 in (
@@ -82,8 +82,8 @@ same-length-9 c = search needs
 
 returns-2 : tie.Need-returns-2
 returns-2 c =
-    let pre = c .before .before .before .before .before .before .before .before .before .before .before .before .before .before .before .before .before .before .before .before .before .before .before .before .before .before .before .before .before .before .before .before .pre in
-    let args = c .before .before .before .before .before .before .before .before .before .before .before .before .before .before .before .before .before .before .before .before .before .before .before .before .before .before .before .before .before .before .before .before .args in
+    let pre = c .before .before .before .before .before .before .before .before .before .before .before .before .before .before .before .before .before .before .before .before .before .before .before .before .before .before .before .before .before .before .before .before .before .pre in
+    let args = c .before .before .before .before .before .before .before .before .before .before .before .before .before .before .before .before .before .before .before .before .before .before .before .before .before .before .before .before .before .before .before .before .before .args in
     let asked-at = c .before .before .before .before .before .before .before .before .before .before .before .before .before .before .before .before .asked-at in
     let other = sym (c .before .before .before .before .before .before .before .before .before .before .before .before .before .before .before .goal-of .ensures) ∙ c .before .before .before .before .before .before .before .before .before .before .before .before .before .enum-told .given .1 in (
       all-nodes (pre .0) (c .before .before .before .before .before .before .before .before .mark-node .ensures),

@@ -12,24 +12,24 @@ use Rattle.nodes.proofs.mark_first.Statement.{statement}
 use Rattle.nodes.proofs.mark_first.Tie as tie
 
 abbrev Inv-loop : tie.InvT-loop
-Inv-loop s y n states views starts successors counts froms owners marks₀ classes₀ flags₀ table₀ last k₀ marks classes flags table k = (k ≤ y .nodes - 1) × (marks ≡ marksTo (sheetIn s y) (take n states) k) × (length classes ≡ length classes₀) × (length flags ≡ length flags₀) × (length table ≡ length table₀)
+Inv-loop s y n states views starts successors counts froms index owners marks₀ classes₀ work₀ table₀ last k₀ marks classes work table k = (k ≤ y .nodes - 1) × (marks ≡ marksTo (sheetIn s y) (take n states) k) × (length classes ≡ length classes₀) × (length work ≡ length work₀) × (length table ≡ length table₀)
 
 abbrev μ-loop : tie.MeasureT-loop
-μ-loop s y n states views starts successors counts froms owners marks₀ classes₀ flags₀ table₀ last k₀ marks classes flags table k = y .nodes - 1 - k
+μ-loop s y n states views starts successors counts froms index owners marks₀ classes₀ work₀ table₀ last k₀ marks classes work table k = y .nodes - 1 - k
 
 sub-last : tie.Need-sub-last Inv-loop μ-loop
 sub-last c =
-    let pre = c .before .before .before .before .before .before .before .before .before .before .before .before .before .pre in
+    let pre = c .before .before .before .before .before .before .before .before .before .before .before .before .before .before .pre in
     let z = some-node _ _ (pre .0 .asked .sheet) in omega arith
 
 loop-holds : tie.Need-loop-holds Inv-loop μ-loop
 loop-holds c =
-    let pre = c .before .before .before .before .before .before .before .before .before .before .before .before .before .pre in
+    let pre = c .before .before .before .before .before .before .before .before .before .before .before .before .before .before .pre in
     (omega arith, none-yet (pre .0) _ (pre .1), refl, refl, refl)
 
 mark-node-requires : tie.Need-mark-node-requires Inv-loop μ-loop
 mark-node-requires c κs =
-    let pre = c .before .before .before .before .before .before .before .before .before .before .before .before .before .before .before .before .before .before .before .pre in
+    let pre = c .before .before .before .before .before .before .before .before .before .before .before .before .before .before .before .before .before .before .before .before .pre in
     let inv = c .before .before .before .before .before .loop .inv in
     (pre .0, omega arith, inv .1, pre .2, omega (arith, inv .2, pre .3), omega (arith, inv .3, pre .4), omega (arith, inv .4, pre .5))
 
@@ -48,7 +48,7 @@ loop-again c =
 
 same-length : tie.Need-same-length Inv-loop μ-loop
 same-length c =
-    let pre = c .before .before .before .before .before .before .before .before .before .before .before .before .before .before .before .pre in
+    let pre = c .before .before .before .before .before .before .before .before .before .before .before .before .before .before .before .before .pre in
     let loop = c .before .loop in
     marks-size (pre .0) (loop .k) (pre .1) (loop .inv .1)
 

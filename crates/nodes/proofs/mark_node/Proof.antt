@@ -8,8 +8,8 @@ use Rattle.nodes.proofs.mark_node.Tie as tie
 
 asked-at-requires : tie.Need-asked-at-requires
 asked-at-requires c κs =
-    let pre = c .before .before .before .before .before .before .before .before .before .before .before .before .pre in
-    let args = c .before .before .before .before .before .before .before .before .before .before .before .before .args in
+    let pre = c .before .before .before .before .before .before .before .before .before .before .before .before .before .pre in
+    let args = c .before .before .before .before .before .before .before .before .before .before .before .before .before .args in
     node-asks (pre .0) (args .k) (pre .1)
 
 enum-known-q : tie.Need-enum-known-q
@@ -17,8 +17,8 @@ enum-known-q c = search needs
 
 mark-not-requires : tie.Need-mark-not-requires
 mark-not-requires c κs =
-    let pre = c .before .before .before .before .before .before .before .before .before .before .before .before .before .before .before .before .before .pre in
-    let args = c .before .before .before .before .before .before .before .before .before .before .before .before .before .before .before .before .before .args in
+    let pre = c .before .before .before .before .before .before .before .before .before .before .before .before .before .before .before .before .before .before .pre in
+    let args = c .before .before .before .before .before .before .before .before .before .before .before .before .before .before .before .before .before .before .args in
     bit-asks (pre .0) (args .k) (pre .1) (args .marks .now) (pre .2)
 
 enum-known-q-2 : tie.Need-enum-known-q-2
@@ -26,8 +26,8 @@ enum-known-q-2 c = search needs
 
 mark-and-requires : tie.Need-mark-and-requires
 mark-and-requires c κs =
-    let pre = c .before .before .before .before .before .before .before .before .before .before .before .before .before .before .before .before .before .pre in
-    let args = c .before .before .before .before .before .before .before .before .before .before .before .before .before .before .before .before .before .args in
+    let pre = c .before .before .before .before .before .before .before .before .before .before .before .before .before .before .before .before .before .before .pre in
+    let args = c .before .before .before .before .before .before .before .before .before .before .before .before .before .before .before .before .before .before .args in
     bit-asks (pre .0) (args .k) (pre .1) (args .marks .now) (pre .2)
 
 enum-known-q-3 : tie.Need-enum-known-q-3
@@ -35,8 +35,8 @@ enum-known-q-3 c = search needs
 
 mark-or-requires : tie.Need-mark-or-requires
 mark-or-requires c κs =
-    let pre = c .before .before .before .before .before .before .before .before .before .before .before .before .before .before .before .before .before .pre in
-    let args = c .before .before .before .before .before .before .before .before .before .before .before .before .before .before .before .before .before .args in
+    let pre = c .before .before .before .before .before .before .before .before .before .before .before .before .before .before .before .before .before .before .pre in
+    let args = c .before .before .before .before .before .before .before .before .before .before .before .before .before .before .before .before .before .before .args in
     bit-asks (pre .0) (args .k) (pre .1) (args .marks .now) (pre .2)
 
 enum-known-q-4 : tie.Need-enum-known-q-4
@@ -44,8 +44,8 @@ enum-known-q-4 c = search needs
 
 mark-future-requires : tie.Need-mark-future-requires
 mark-future-requires c κs =
-    let pre = c .before .before .before .before .before .before .before .before .before .before .before .before .before .before .before .before .before .before .before .before .pre in
-    let args = c .before .before .before .before .before .before .before .before .before .before .before .before .before .before .before .before .before .before .before .before .args in
+    let pre = c .before .before .before .before .before .before .before .before .before .before .before .before .before .before .before .before .before .before .before .before .before .pre in
+    let args = c .before .before .before .before .before .before .before .before .before .before .before .before .before .before .before .before .before .before .before .before .before .args in
     let (m, a, b) = future-asks (pre .0) (args .k) (pre .1) (args .marks .now) (pre .2) in (m, a, b, pre .3, pre .4, pre .5, pre .6)
 
 enum-told : tie.Need-enum-told
@@ -53,8 +53,8 @@ enum-told c = search needs
 
 mark-test-requires : tie.Need-mark-test-requires
 mark-test-requires c κs =
-    let pre = c .before .before .before .before .before .before .before .before .before .before .before .before .before .before .before .before .pre in
-    let args = c .before .before .before .before .before .before .before .before .before .before .before .before .before .before .before .before .args in
+    let pre = c .before .before .before .before .before .before .before .before .before .before .before .before .before .before .before .before .before .pre in
+    let args = c .before .before .before .before .before .before .before .before .before .before .before .before .before .before .before .before .before .args in
     test-asks (pre .0) (args .k) (pre .1) (args .marks .now) (pre .2)
 
 enum-known-q-5 : tie.Need-enum-known-q-5
@@ -62,8 +62,8 @@ enum-known-q-5 c = search needs
 
 mark-test-requires-2 : tie.Need-mark-test-requires-2
 mark-test-requires-2 c κs =
-    let pre = c .before .before .before .before .before .before .before .before .before .before .before .before .before .before .before .before .before .pre in
-    let args = c .before .before .before .before .before .before .before .before .before .before .before .before .before .before .before .before .before .args in
+    let pre = c .before .before .before .before .before .before .before .before .before .before .before .before .before .before .before .before .before .before .pre in
+    let args = c .before .before .before .before .before .before .before .before .before .before .before .before .before .before .before .before .before .before .args in
     test-asks (pre .0) (args .k) (pre .1) (args .marks .now) (pre .2)
 
 enum-known-q-6 : tie.Need-enum-known-q-6
@@ -71,8 +71,8 @@ enum-known-q-6 c = search needs
 
 mark-test-requires-3 : tie.Need-mark-test-requires-3
 mark-test-requires-3 c κs =
-    let pre = c .before .before .before .before .before .before .before .before .before .before .before .before .before .before .before .before .before .pre in
-    let args = c .before .before .before .before .before .before .before .before .before .before .before .before .before .before .before .before .before .args in
+    let pre = c .before .before .before .before .before .before .before .before .before .before .before .before .before .before .before .before .before .before .pre in
+    let args = c .before .before .before .before .before .before .before .before .before .before .before .before .before .before .before .before .before .before .args in
     test-asks (pre .0) (args .k) (pre .1) (args .marks .now) (pre .2)
 
 enum-known-q-7 : tie.Need-enum-known-q-7
@@ -80,8 +80,8 @@ enum-known-q-7 c = search needs
 
 mark-test-requires-4 : tie.Need-mark-test-requires-4
 mark-test-requires-4 c κs =
-    let pre = c .before .before .before .before .before .before .before .before .before .before .before .before .before .before .before .before .before .pre in
-    let args = c .before .before .before .before .before .before .before .before .before .before .before .before .before .before .before .before .before .args in
+    let pre = c .before .before .before .before .before .before .before .before .before .before .before .before .before .before .before .before .before .before .pre in
+    let args = c .before .before .before .before .before .before .before .before .before .before .before .before .before .before .before .before .before .before .args in
     test-asks (pre .0) (args .k) (pre .1) (args .marks .now) (pre .2)
 
 enum-known-q-8 : tie.Need-enum-known-q-8
@@ -89,8 +89,8 @@ enum-known-q-8 c = search needs
 
 mark-test-requires-5 : tie.Need-mark-test-requires-5
 mark-test-requires-5 c κs =
-    let pre = c .before .before .before .before .before .before .before .before .before .before .before .before .before .before .before .before .before .pre in
-    let args = c .before .before .before .before .before .before .before .before .before .before .before .before .before .before .before .before .before .args in
+    let pre = c .before .before .before .before .before .before .before .before .before .before .before .before .before .before .before .before .before .before .pre in
+    let args = c .before .before .before .before .before .before .before .before .before .before .before .before .before .before .before .before .before .before .args in
     test-asks (pre .0) (args .k) (pre .1) (args .marks .now) (pre .2)
 
 enum-told-2 : tie.Need-enum-told-2
@@ -98,8 +98,8 @@ enum-told-2 c = search needs
 
 mark-test-requires-6 : tie.Need-mark-test-requires-6
 mark-test-requires-6 c κs =
-    let pre = c .before .before .before .before .before .before .before .before .before .before .before .before .before .before .before .before .pre in
-    let args = c .before .before .before .before .before .before .before .before .before .before .before .before .before .before .before .before .args in
+    let pre = c .before .before .before .before .before .before .before .before .before .before .before .before .before .before .before .before .before .pre in
+    let args = c .before .before .before .before .before .before .before .before .before .before .before .before .before .before .before .before .before .args in
     test-asks (pre .0) (args .k) (pre .1) (args .marks .now) (pre .2)
 
 enum-told-3 : tie.Need-enum-told-3
@@ -107,8 +107,8 @@ enum-told-3 c = search needs
 
 mark-test-requires-7 : tie.Need-mark-test-requires-7
 mark-test-requires-7 c κs =
-    let pre = c .before .before .before .before .before .before .before .before .before .before .before .before .before .before .before .before .pre in
-    let args = c .before .before .before .before .before .before .before .before .before .before .before .before .before .before .before .before .args in
+    let pre = c .before .before .before .before .before .before .before .before .before .before .before .before .before .before .before .before .before .pre in
+    let args = c .before .before .before .before .before .before .before .before .before .before .before .before .before .before .before .before .before .args in
     test-asks (pre .0) (args .k) (pre .1) (args .marks .now) (pre .2)
 
 same-length : tie.Need-same-length
@@ -116,8 +116,8 @@ same-length c = search needs
 
 returns : tie.Need-returns
 returns c =
-    let pre = c .before .before .before .before .before .before .before .before .before .before .before .before .before .before .before .before .before .before .before .before .pre in
-    let args = c .before .before .before .before .before .before .before .before .before .before .before .before .before .before .before .before .before .before .before .before .args in
+    let pre = c .before .before .before .before .before .before .before .before .before .before .before .before .before .before .before .before .before .before .before .before .before .pre in
+    let args = c .before .before .before .before .before .before .before .before .before .before .before .before .before .before .before .before .before .before .before .before .before .args in
     let asked-at = c .before .before .before .before .before .before .before .asked-at in
     let q = c .before .before .before .before .before .q in
     not-step (pre .0) (args .k) (pre .1) _ (asked-at .ensures) (args .marks .now) _ (pre .2) _ (q .given .1) (c .before .before .mark-not .ensures)
@@ -127,8 +127,8 @@ same-length-2 c = search needs
 
 returns-2 : tie.Need-returns-2
 returns-2 c =
-    let pre = c .before .before .before .before .before .before .before .before .before .before .before .before .before .before .before .before .before .before .before .before .pre in
-    let args = c .before .before .before .before .before .before .before .before .before .before .before .before .before .before .before .before .before .before .before .before .args in
+    let pre = c .before .before .before .before .before .before .before .before .before .before .before .before .before .before .before .before .before .before .before .before .before .pre in
+    let args = c .before .before .before .before .before .before .before .before .before .before .before .before .before .before .before .before .before .before .before .before .before .args in
     let asked-at = c .before .before .before .before .before .before .before .asked-at in
     let q2 = c .before .before .before .before .before .q2 in
     and-step (pre .0) (args .k) (pre .1) _ (asked-at .ensures) (args .marks .now) _ (pre .2) _ _ (q2 .given .1) (c .before .before .mark-and .ensures)
@@ -138,8 +138,8 @@ same-length-3 c = search needs
 
 returns-3 : tie.Need-returns-3
 returns-3 c =
-    let pre = c .before .before .before .before .before .before .before .before .before .before .before .before .before .before .before .before .before .before .before .before .pre in
-    let args = c .before .before .before .before .before .before .before .before .before .before .before .before .before .before .before .before .before .before .before .before .args in
+    let pre = c .before .before .before .before .before .before .before .before .before .before .before .before .before .before .before .before .before .before .before .before .before .pre in
+    let args = c .before .before .before .before .before .before .before .before .before .before .before .before .before .before .before .before .before .before .before .before .before .args in
     let asked-at = c .before .before .before .before .before .before .before .asked-at in
     let q3 = c .before .before .before .before .before .q3 in
     or-step (pre .0) (args .k) (pre .1) _ (asked-at .ensures) (args .marks .now) _ (pre .2) _ _ (q3 .given .1) (c .before .before .mark-or .ensures)
@@ -158,8 +158,8 @@ same-length-7 c = search needs
 
 returns-4 : tie.Need-returns-4
 returns-4 c =
-    let pre = c .before .before .before .before .before .before .before .before .before .before .before .before .before .before .before .before .before .before .before .before .before .before .before .before .before .before .before .before .before .pre in
-    let args = c .before .before .before .before .before .before .before .before .before .before .before .before .before .before .before .before .before .before .before .before .before .before .before .before .before .before .before .before .before .args in
+    let pre = c .before .before .before .before .before .before .before .before .before .before .before .before .before .before .before .before .before .before .before .before .before .before .before .before .before .before .before .before .before .before .pre in
+    let args = c .before .before .before .before .before .before .before .before .before .before .before .before .before .before .before .before .before .before .before .before .before .before .before .before .before .before .before .before .before .before .args in
     let asked-at = c .before .before .before .before .before .before .before .before .before .before .before .before .before .before .before .before .asked-at in
     let q4 = c .before .before .before .before .before .before .before .before .before .before .before .before .before .before .q4 in
     future-step (pre .0) (args .k) (pre .1) _ (asked-at .ensures) (args .marks .now) _ (pre .2) _ _ (q4 .given .1) (c .before .before .before .before .before .before .before .before .mark-future .ensures)
@@ -170,8 +170,8 @@ same-length-8 c = search needs
 returns-5 : tie.Need-returns-5
 unfolding nodeOf
 returns-5 c =
-    let pre = c .before .before .before .before .before .before .before .before .before .before .before .before .before .before .before .before .before .before .before .pre in
-    let args = c .before .before .before .before .before .before .before .before .before .before .before .before .before .before .before .before .before .before .before .args in
+    let pre = c .before .before .before .before .before .before .before .before .before .before .before .before .before .before .before .before .before .before .before .before .pre in
+    let args = c .before .before .before .before .before .before .before .before .before .before .before .before .before .before .before .before .before .before .before .before .args in
     let asked-at = c .before .before .before .before .before .before .asked-at in
     let enum-told = c .before .before .before .before .enum-told in
     test-step (pre .0) (args .k) (pre .1) _ (asked-at .ensures) (args .marks .now) _ (pre .2) _ refl (ap (nodeOf (args .k)) (enum-told .given .1)) (c .before .before .mark-test .ensures)
@@ -182,8 +182,8 @@ same-length-9 c = search needs
 returns-6 : tie.Need-returns-6
 unfolding nodeOf
 returns-6 c =
-    let pre = c .before .before .before .before .before .before .before .before .before .before .before .before .before .before .before .before .before .before .before .before .pre in
-    let args = c .before .before .before .before .before .before .before .before .before .before .before .before .before .before .before .before .before .before .before .before .args in
+    let pre = c .before .before .before .before .before .before .before .before .before .before .before .before .before .before .before .before .before .before .before .before .before .pre in
+    let args = c .before .before .before .before .before .before .before .before .before .before .before .before .before .before .before .before .before .before .before .before .before .args in
     let asked-at = c .before .before .before .before .before .before .before .asked-at in
     let q5 = c .before .before .before .before .before .q5 in
     test-step (pre .0) (args .k) (pre .1) _ (asked-at .ensures) (args .marks .now) _ (pre .2) _ (q5 .given .1) refl (c .before .before .mark-test2 .ensures)
@@ -194,8 +194,8 @@ same-length-10 c = search needs
 returns-7 : tie.Need-returns-7
 unfolding nodeOf
 returns-7 c =
-    let pre = c .before .before .before .before .before .before .before .before .before .before .before .before .before .before .before .before .before .before .before .before .pre in
-    let args = c .before .before .before .before .before .before .before .before .before .before .before .before .before .before .before .before .before .before .before .before .args in
+    let pre = c .before .before .before .before .before .before .before .before .before .before .before .before .before .before .before .before .before .before .before .before .before .pre in
+    let args = c .before .before .before .before .before .before .before .before .before .before .before .before .before .before .before .before .before .before .before .before .before .args in
     let asked-at = c .before .before .before .before .before .before .before .asked-at in
     let q6 = c .before .before .before .before .before .q6 in
     test-step (pre .0) (args .k) (pre .1) _ (asked-at .ensures) (args .marks .now) _ (pre .2) _ (q6 .given .1) refl (c .before .before .mark-test3 .ensures)
@@ -206,8 +206,8 @@ same-length-11 c = search needs
 returns-8 : tie.Need-returns-8
 unfolding nodeOf
 returns-8 c =
-    let pre = c .before .before .before .before .before .before .before .before .before .before .before .before .before .before .before .before .before .before .before .before .pre in
-    let args = c .before .before .before .before .before .before .before .before .before .before .before .before .before .before .before .before .before .before .before .before .args in
+    let pre = c .before .before .before .before .before .before .before .before .before .before .before .before .before .before .before .before .before .before .before .before .before .pre in
+    let args = c .before .before .before .before .before .before .before .before .before .before .before .before .before .before .before .before .before .before .before .before .before .args in
     let asked-at = c .before .before .before .before .before .before .before .asked-at in
     let q7 = c .before .before .before .before .before .q7 in
     test-step (pre .0) (args .k) (pre .1) _ (asked-at .ensures) (args .marks .now) _ (pre .2) _ (q7 .given .1) refl (c .before .before .mark-test4 .ensures)
@@ -218,8 +218,8 @@ same-length-12 c = search needs
 returns-9 : tie.Need-returns-9
 unfolding nodeOf
 returns-9 c =
-    let pre = c .before .before .before .before .before .before .before .before .before .before .before .before .before .before .before .before .before .before .before .before .pre in
-    let args = c .before .before .before .before .before .before .before .before .before .before .before .before .before .before .before .before .before .before .before .before .args in
+    let pre = c .before .before .before .before .before .before .before .before .before .before .before .before .before .before .before .before .before .before .before .before .before .pre in
+    let args = c .before .before .before .before .before .before .before .before .before .before .before .before .before .before .before .before .before .before .before .before .before .args in
     let asked-at = c .before .before .before .before .before .before .before .asked-at in
     let q8 = c .before .before .before .before .before .q8 in
     test-step (pre .0) (args .k) (pre .1) _ (asked-at .ensures) (args .marks .now) _ (pre .2) _ (q8 .given .1) refl (c .before .before .mark-test5 .ensures)
@@ -230,8 +230,8 @@ same-length-13 c = search needs
 returns-10 : tie.Need-returns-10
 unfolding nodeOf
 returns-10 c =
-    let pre = c .before .before .before .before .before .before .before .before .before .before .before .before .before .before .before .before .before .before .before .pre in
-    let args = c .before .before .before .before .before .before .before .before .before .before .before .before .before .before .before .before .before .before .before .args in
+    let pre = c .before .before .before .before .before .before .before .before .before .before .before .before .before .before .before .before .before .before .before .before .pre in
+    let args = c .before .before .before .before .before .before .before .before .before .before .before .before .before .before .before .before .before .before .before .before .args in
     let asked-at = c .before .before .before .before .before .before .asked-at in
     let enum-told2 = c .before .before .before .before .enum-told2 in
     test-step (pre .0) (args .k) (pre .1) _ (asked-at .ensures) (args .marks .now) _ (pre .2) _ refl (ap (nodeOf (args .k)) (enum-told2 .given .1)) (c .before .before .mark-test6 .ensures)
@@ -242,8 +242,8 @@ same-length-14 c = search needs
 returns-11 : tie.Need-returns-11
 unfolding nodeOf
 returns-11 c =
-    let pre = c .before .before .before .before .before .before .before .before .before .before .before .before .before .before .before .before .before .before .before .pre in
-    let args = c .before .before .before .before .before .before .before .before .before .before .before .before .before .before .before .before .before .before .before .args in
+    let pre = c .before .before .before .before .before .before .before .before .before .before .before .before .before .before .before .before .before .before .before .before .pre in
+    let args = c .before .before .before .before .before .before .before .before .before .before .before .before .before .before .before .before .before .before .before .before .args in
     let asked-at = c .before .before .before .before .before .before .asked-at in
     let enum-told3 = c .before .before .before .before .enum-told3 in
     test-step (pre .0) (args .k) (pre .1) _ (asked-at .ensures) (args .marks .now) _ (pre .2) _ refl (ap (nodeOf (args .k)) (enum-told3 .given .1)) (c .before .before .mark-test7 .ensures)

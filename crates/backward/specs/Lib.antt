@@ -1,0 +1,2 @@
+-- The definitions that the contracts of `backward` cite.
+pub mod Walk
