@@ -6,10 +6,11 @@ use native.Mathlib.Decide.{ℕ-discrete}
 use native.Mathlib.Omega.{arith}
 use lib.Dec.{eqb, ltb}
 use borrow.Author.Tests.{ltb-true, eqb-true, not-true, lt-ltb, eq-eqb, ne-eqb}
+use Rattle.facts.specs.Truth.{clash, unless-false, unless-true, same-test, and-left, and-right, and-both, and-fails, or-cases}
 use Rattle.atl.specs.Bounded.{some<}
 use Rattle.atl.specs.Game.{Game, IsGame, States}
 use Rattle.atl.specs.Marking.{secures, force}
-use Rattle.atl.proofs.Bounded.{clash, unless-true, unless-false, same-test, and-left, and-right, and-both, and-fails, or-cases, some-intro, some-elim, some-cong, every-intro, every-elim}
+use Rattle.atl.proofs.Bounded.{some-intro, some-elim, some-cong, every-intro, every-elim}
 use Rattle.incoming.specs.Index.{bit, many}
 use Rattle.incoming.proofs.Counting.{many-cong, many-sum, many-none, many-lt, many-more, select}
 use Rattle.marking.specs.Table.{side}

@@ -11,10 +11,11 @@ use lib.Dec.{eqb, leb, ltb, leb·suc-suc}
 use lib.ListN.{getD, length}
 use lib.Seq.{ext-getD}
 use borrow.Author.Tests.{eqb-true, leb-false, eq-eqb, ne-eqb, lt-ltb, le-ltb, le-leb, lt-leb}
+use Rattle.facts.specs.Truth.{unless-true}
 use Rattle.atl.specs.Bounded.{some<, tabulate}
 use Rattle.atl.specs.Game.{Game, States}
 use Rattle.atl.specs.Marking.{unset, counted, recount, swept}
-use Rattle.atl.proofs.Bounded.{unless-true, some-intro, some-elim, length-tabulate, getD-tabulate}
+use Rattle.atl.proofs.Bounded.{some-intro, some-elim, length-tabulate, getD-tabulate}
 use Rattle.atl.proofs.Spread as spread
 use Rattle.incoming.specs.Index.{at}
 use Rattle.incoming.specs.Owners.{Incoming}
@@ -225,12 +226,14 @@ module _ {n : ℕ} {starts successors classes froms index owners : List ℕ} (s 
         lefts = x .lefts;
         needs = x .needs;
         counts = λ i h. count-at i h ∙ go i h (counted (table r) r i) refl;
-        up = omega (arith, x .more);
-        keeps = λ k h. refl;
-        there = λ k h. x .there k (omega (arith, x .more));
-        once = λ j k h g. x .once j k h (omega (arith, x .more));
-        fresh = λ k h g. absurd (omega (arith, x .more));
-        found = λ i h e. absurd (omega (arith, late, old i h (omega (arith, count-at i h)), count-at i h));
+        queued = record {
+          up = omega (arith, x .more);
+          keeps = λ k h. refl;
+          there = λ k h. x .there k (omega (arith, x .more));
+          once = λ j k h g. x .once j k h (omega (arith, x .more));
+          fresh = λ k h g. absurd (omega (arith, x .more));
+          found = λ i h e. absurd (omega (arith, late, old i h (omega (arith, count-at i h)), count-at i h));
+        };
       }
         where
           go : (i : ℕ) → i < n → (t : Bool) → counted (table r) r i ≡ t
@@ -266,15 +269,15 @@ module _ {n : ℕ} {starts successors classes froms index owners : List ℕ} (s 
       between-next h = rw (add-one r) (record {
         counts = over (w .queue) _ _ y reached;
         round = omega (arith, x .round);
-        up = y .up;
+        up = y .queued .up;
         more = refl;
         sized = y .sized;
         lefts = λ c g. y .lefts c g ∙ left-cong G total first own to cls L want W (lower to (table (suc r)) (suc r)) c same;
         needs = λ i g. y .needs i g ∙ need-cong G total first own to cls L want W (lower to (table (suc r)) (suc r)) i same;
-        there = y .there;
-        once = y .once;
-        level = y .fresh;
-        found = y .found;
+        there = y .queued .there;
+        once = y .queued .once;
+        level = y .queued .fresh;
+        found = y .queued .found;
       })
         where
           W : ℕ → Bool

@@ -10,9 +10,9 @@ use lib.Dec.{eqb, ltb}
 use lib.ListN.{set, length-set}
 use lib.Seq.{getD-set-same, getD-set-other}
 use borrow.Author.Tests.{eqb-true, lt-ltb, le-ltb}
+use Rattle.facts.specs.Truth.{and-left}
 use Rattle.atl.specs.Game.{States}
 use Rattle.atl.specs.Marking.{unset}
-use Rattle.atl.proofs.Bounded.{and-left}
 use Rattle.incoming.specs.Index.{many, at}
 use Rattle.incoming.proofs.Counting.{many-le, many-more}
 use Rattle.backward.specs.Walk.{Walk, walk, lowered, finishes, enter, settle, visit, visits, arrive, passes, Sized}

@@ -10,10 +10,11 @@ use lib.Dec.{eqb, ltb}
 use lib.ListN.{getD, set, length}
 use lib.Seq.{getD-set-same, getD-set-other}
 use borrow.Author.Tests.{eqb-true, eq-eqb, ne-eqb, lt-ltb, le-ltb, ltb-true, leb-true}
+use Rattle.facts.specs.Truth.{clash, unless-true, same-test, and-left, and-right, and-both, and-fails, or-right}
 use Rattle.atl.specs.Bounded.{some<}
 use Rattle.atl.specs.Game.{Game, States}
 use Rattle.atl.specs.Marking.{unset, counted}
-use Rattle.atl.proofs.Bounded.{clash, unless-true, same-test, and-left, and-right, and-both, and-fails, or-right, some-elim, some-next}
+use Rattle.atl.proofs.Bounded.{some-elim, some-next}
 use Rattle.incoming.specs.Index.{at, slot, IsIndex}
 use Rattle.incoming.specs.Index as incoming
 use Rattle.incoming.proofs.Order.{under, slot-from, slot-before, slot-once, first-mono}
@@ -23,13 +24,13 @@ use Rattle.backward.proofs.Sizes.{sized-room, visit-sized}
 use Rattle.backward.proofs.Counters.{leftOf, needOf, left-cong, need-cong, left-here, left-other, need-here, need-other}
 
 -- The queue within round r + 1, by the counts: its first `end` entries are those of queue₀, and behind them stand the positions that took a count in this round.
-record Queued (n r end : ℕ) (queue₀ rounds queue : List ℕ) (more : ℕ) : Type 0 where
-  up : end ≤ more
-  keeps : (k : ℕ) → k < end → at queue k ≡ at queue₀ k
-  there : (k : ℕ) → k < more → at rounds (at queue k) < unset
-  once : (j k : ℕ) → j < k → k < more → at queue j ≡ at queue k → ⊥
-  fresh : (k : ℕ) → end ≤ k → k < more → at rounds (at queue k) ≡ suc r
-  found : (i : ℕ) → i < n → at rounds i ≡ suc r → (k : ℕ) × (end ≤ k) × (k < more) × (at queue k ≡ i)
+pub record Queued (n r end : ℕ) (queue₀ rounds queue : List ℕ) (more : ℕ) : Type 0 where
+  pub up : end ≤ more
+  pub keeps : (k : ℕ) → k < end → at queue k ≡ at queue₀ k
+  pub there : (k : ℕ) → k < more → at rounds (at queue k) < unset
+  pub once : (j k : ℕ) → j < k → k < more → at queue j ≡ at queue k → ⊥
+  pub fresh : (k : ℕ) → end ≤ k → k < more → at rounds (at queue k) ≡ suc r
+  pub found : (i : ℕ) → i < n → at rounds i ≡ suc r → (k : ℕ) × (end ≤ k) × (k < more) × (at queue k ≡ i)
 
 -- a position that has no count takes one in this round and stands last in the queue
 pushed : {n r end : ℕ} {queue₀ rounds queue : List ℕ} {more : ℕ} → suc r < unset → (i : ℕ) → i < length rounds → more < length queue → at rounds i ≡ unset
@@ -89,19 +90,13 @@ module _ (G : Game) (total : ℕ) (first own to cls : ℕ → ℕ) (L : Lines G 
   abbrev pub due : List ℕ → ℕ → (ℕ → Bool) → ℕ → ℕ
   due l r W i = cond (counted l r i) (getD l i unset) (cond (a i && eqb (needOf G total first own to cls L want W i) 0) (suc r) unset)
 
-  -- The walk within round r + 1, where the places in W were visited. Before the round the counts were l, and the queue had `end` entries, those of queue₀:
-  -- behind them stand the positions that took a count in this round.
+  -- The walk within round r + 1, where the places in W were visited. Before the round the counts were l, and the queue had `end` entries, those of queue₀.
   pub record Walked (l : List ℕ) (r end : ℕ) (queue₀ : List ℕ) (W : ℕ → Bool) (w : Walk) : Type 0 where
     pub sized : Sized (G .states) total w
     pub lefts : (c : ℕ) → c < total → at (w .left) c ≡ leftOf G total first own to cls L want W c
     pub needs : (i : ℕ) → i < G .states → at (w .need) i ≡ needOf G total first own to cls L want W i
     pub counts : (i : ℕ) → i < G .states → at (w .rounds) i ≡ due l r W i
-    pub up : end ≤ w .more
-    pub keeps : (k : ℕ) → k < end → at (w .queue) k ≡ at queue₀ k
-    pub there : (k : ℕ) → k < w .more → at (w .rounds) (at (w .queue) k) < unset
-    pub once : (j k : ℕ) → j < k → k < w .more → at (w .queue) j ≡ at (w .queue) k → ⊥
-    pub fresh : (k : ℕ) → end ≤ k → k < w .more → at (w .rounds) (at (w .queue) k) ≡ suc r
-    pub found : (i : ℕ) → i < G .states → at (w .rounds) i ≡ suc r → (k : ℕ) × (end ≤ k) × (k < w .more) × (at (w .queue) k ≡ i)
+    pub queued : Queued (G .states) r end queue₀ (w .rounds) (w .queue) (w .more)
 
   -- what is left of a class, and what a position waits for
   abbrev left : (ℕ → Bool) → ℕ → ℕ
@@ -128,12 +123,7 @@ module _ (G : Game) (total : ℕ) (first own to cls : ℕ → ℕ) (L : Lines G 
       lefts = λ c h. s .lefts c h ∙ left-cong G total first own to cls L want W X c f;
       needs = λ i h. s .needs i h ∙ need-cong G total first own to cls L want W X i f;
       counts = λ i h. s .counts i h ∙ due-same l r W X i (λ C A. ap (λ (x : ℕ). eqb x 0) (need-cong G total first own to cls L want W X i f));
-      up = s .up;
-      keeps = s .keeps;
-      there = s .there;
-      once = s .once;
-      fresh = s .fresh;
-      found = s .found;
+      queued = s .queued;
     }
 
     module _ (small : suc r < unset) where
@@ -175,12 +165,7 @@ module _ (G : Game) (total : ℕ) (first own to cls : ℕ → ℕ) (L : Lines G 
             lefts = λ i k. left-at i k (ℕ-discrete i (cls p));
             needs = λ i k. need-at i k (ℕ-discrete i (own p));
             counts = λ i k. count-at i k (ℕ-discrete i (own p));
-            up = q .up;
-            keeps = q .keeps;
-            there = q .there;
-            once = q .once;
-            fresh = q .fresh;
-            found = q .found;
+            queued = q;
           }
             where
               need-at : (i : ℕ) → i < G .states → Dec (i ≡ own p) → at needs i ≡ need X i
@@ -191,9 +176,6 @@ module _ (G : Game) (total : ℕ) (first own to cls : ℕ → ℕ) (L : Lines G 
               count-at i k (yes x) = rw x e
               count-at i k (no x) = g i x ∙ s .counts i k ∙ due-same l r W X i (λ C A. ap (λ (x : ℕ). eqb x 0) (elsewhere i k x))
 
-          queued : Queued (G .states) r end queue₀ (w .rounds) (w .queue) (w .more)
-          queued = record { up = s .up; keeps = s .keeps; there = s .there; once = s .once; fresh = s .fresh; found = s .found }
-
           -- what the position of the joint move waits for after it
           now : {t : Bool} → finishes want (at (w .left) (cls p)) ≡ t → need X (own p) ≡ cond t (lowered true (need W (own p))) (need W (own p))
           now e =
@@ -203,7 +185,7 @@ module _ (G : Game) (total : ℕ) (first own to cls : ℕ → ℕ) (L : Lines G 
           go : (t : Bool) → finishes want (at (w .left) (cls p)) ≡ t → Sized (G .states) total (cond t (settle a r (own p) v) v)
               → Walked l r end queue₀ X (cond t (settle a r (own p) v) v)
           go false e z =
-              built (w .need) (w .rounds) (w .queue) (w .more) z queued (s .needs (own p) o ∙ sym (now e)) (λ i x. refl)
+              built (w .need) (w .rounds) (w .queue) (w .more) z (s .queued) (s .needs (own p) o ∙ sym (now e)) (λ i x. refl)
               (s .counts (own p) o ∙ due-same l r W X (own p) (λ C A. ap (λ (x : ℕ). eqb x 0) (sym (now e)))) (λ i x. refl)
           go true e z = settled (finishes true (at (w .need) (own p))) refl z
             where
@@ -222,7 +204,7 @@ module _ (G : Game) (total : ℕ) (first own to cls : ℕ → ℕ) (L : Lines G 
               settled : (t : Bool) → finishes true (at (w .need) (own p)) ≡ t → Sized (G .states) total (cond t (enter a r (own p) u) u)
                   → Walked l r end queue₀ X (cond t (enter a r (own p) u) u)
               settled false f z =
-                  built needs (w .rounds) (w .queue) (w .more) z queued lower others
+                  built needs (w .rounds) (w .queue) (w .more) z (s .queued) lower others
                   (s .counts (own p) o ∙ due-same l r W X (own p) (λ C A.
                   unmoved (need W (own p)) (ap (finishes true) (sym (s .needs (own p) o)) ∙ f) ∙ ap (λ (x : ℕ). eqb x 0) (sym (now e)))) (λ i x. refl)
               settled true f z = entered (eqb (at (w .rounds) (own p)) unset && a (own p)) refl z
@@ -245,10 +227,10 @@ module _ (G : Game) (total : ℕ) (first own to cls : ℕ → ℕ) (L : Lines G 
                       → Sized (G .states) total (cond t (walk lefts needs (set (w .rounds) (own p) (r + 1)) (set (w .queue) (w .more) (own p)) (w .more + 1)) u)
                       → Walked l r end queue₀ X (cond t (walk lefts needs (set (w .rounds) (own p) (r + 1)) (set (w .queue) (w .more) (own p)) (w .more + 1)) u)
                   entered false g z =
-                      built needs (w .rounds) (w .queue) (w .more) z queued lower others
+                      built needs (w .rounds) (w .queue) (w .more) z (s .queued) lower others
                       (s .counts (own p) o ∙ due-same l r W X (own p) (λ C A. absurd (clash (and-both (eq-eqb _ unset (rw C at was)) A) g))) (λ i x. refl)
                   entered true g z =
-                      built needs _ _ _ z (pushed small (own p) inside (omega (arith, s .sized .room, sized-room (s .sized) (own p) o empty)) empty queued) lower others
+                      built needs _ _ _ z (pushed small (own p) inside (omega (arith, s .sized .room, sized-room (s .sized) (own p) o empty)) empty (s .queued)) lower others
                       (getD-set-same (w .rounds) (own p) (r + 1) 0 inside ∙ add-one r ∙ sym due-now) (λ i x. getD-set-other (w .rounds) (own p) i (r + 1) 0 x)
                     where
                       inside : own p < length (w .rounds)
@@ -326,16 +308,16 @@ module _ (G : Game) (total : ℕ) (first own to cls : ℕ → ℕ) (L : Lines G 
 
             step : {v : Walk} → Walked l r end queue₀ W₁ v
                 → Walked l r end queue₀ (λ p. W p || some< (suc k) (λ j. eqb (to p) (at queue₀ (lo + j)))) (arrive own cls want a froms index r (at (v .queue) (lo + k)) v)
-            step {v} x = walked-cong _ next (arrive-walked (at (v .queue) (lo + k)) (x .sized .listed (lo + k) (omega (arith, x .up))) fresh x)
+            step {v} x = walked-cong _ next (arrive-walked (at (v .queue) (lo + k)) (x .sized .listed (lo + k) (omega (arith, x .queued .up))) fresh x)
               where
                 here : at (v .queue) (lo + k) ≡ at queue₀ (lo + k)
-                here = x .keeps (lo + k) (omega arith)
+                here = x .queued .keeps (lo + k) (omega arith)
 
                 -- an earlier position of the queue is another one
                 fresh : (p : ℕ) → p < total → to p ≡ at (v .queue) (lo + k) → W₁ p ≡ false
                 fresh p m e = ap₂ _||_ (new (lo + k) (omega arith) (omega arith) p m (e ∙ here)) (unless-true _ (λ y.
                     let (j, g, z) = some-elim k (λ j. eqb (to p) (at queue₀ (lo + j))) y in
-                    x .once (lo + j) (lo + k) (omega arith) (omega (arith, x .up)) (x .keeps (lo + j) (omega arith) ∙ sym (eqb-true (to p) (at queue₀ (lo + j)) z) ∙ e)))
+                    x .queued .once (lo + j) (lo + k) (omega arith) (omega (arith, x .queued .up)) (x .queued .keeps (lo + j) (omega arith) ∙ sym (eqb-true (to p) (at queue₀ (lo + j)) z) ∙ e)))
 
                 next : (p : ℕ) → p < total → (W₁ p || eqb (to p) (at (v .queue) (lo + k))) ≡ (W p || some< (suc k) (λ j. eqb (to p) (at queue₀ (lo + j))))
                 next p m = rw here (or-assoc (W p) _ _ ∙ ap (λ (y : Bool). W p || y) (sym (some-next k (λ j. eqb (to p) (at queue₀ (lo + j))))))

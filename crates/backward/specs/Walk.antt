@@ -7,7 +7,7 @@ use Prim.Native.Nat.{ℕ, zero, suc, _+_, _-_, _≤_, _<_}
 use lib.Dec.{eqb, ltb}
 use lib.ListN.{length, set}
 use Rattle.atl.specs.Game.{States}
-use Rattle.atl.specs.Marking.{unset, swept}
+use Rattle.atl.specs.Marking.{unset}
 use Rattle.incoming.specs.Index.{many, at}
 use Rattle.radix.specs.Classes.{movesAt}
 

@@ -6,6 +6,7 @@ use Prim.Native.Nat.{ℕ, zero, suc, _≤_, _<_}
 use native.Mathlib.Omega.{arith}
 use borrow.Author.Tests.{ltb-true, leb-true}
 use lib.Dec.{ltb, leb}
+use Rattle.facts.specs.Truth.{and-left, and-right}
 use Rattle.sheet.specs.declared.Sizes.{Sizes}
 use Rattle.sheet.specs.declared.Limits.{Limits}
 use Rattle.sheet.specs.Limits.{mostMoves}
@@ -13,7 +14,6 @@ use Rattle.sheet.specs.Data.{Part, part, Rule, Sheet}
 use Rattle.sheet.specs.Fields as fields
 use Rattle.sheet.specs.Fields.{Fits, RulesFit, within, literalLimits, headFits, literalFits, ruleFits, sizesFit, every}
 use Rattle.rules.specs.Kinds.{DOES}
-use Rattle.views.proofs.Lists.{and-left, and-right}
 use Rattle.codes.specs.Codes as codes
 use Rattle.codes.specs.Codes.{bits, placeOf, Sound, AllSound}
 

@@ -1,14 +1,15 @@
 -- A code says what its rule says: the sets of a body hold exactly where all its literals do.
 use mathlib.Core.Path.{_≡_, refl, sym, ap, _∙_}
-use mathlib.Core.Bool.{Bool, true, false, cond, not, _&&_, _||_, false≢true}
+use mathlib.Core.Bool.{Bool, true, false, cond, not, _&&_, _||_, false≢true, or-false, and-false, and-true, and-assoc}
 use mathlib.Core.Logic.{_⊎_, inl, inr}
 use mathlib.Core.List.{List, [], _∷_, _++_}
 use Prim.Native.Nat.{ℕ, zero, suc, _+_, _-_, _*_, _≤_, _<_, min}
 use native.Mathlib.Omega.{arith}
 use lib.Bits.{bitAnd, and-zero-r}
 use lib.Dec.{eqb, ltb}
-use lib.ListN.{getD, length, set}
+use lib.ListN.{getD, length}
 use borrow.Author.Tests.{eqb-true, eq-eqb, ne-eqb, ltb-true, ltb-false}
+use Rattle.facts.specs.Truth.{same-test, and-left, and-right, and-both}
 use Rattle.facts.specs.Bits.{bit, has, insert}
 use Rattle.facts.specs.Laws.{bit-and, bit-none, bit-cases, has-insert}
 use Rattle.facts.specs.Sets.{_∈_, _∉_, same-set, insert-new, insert-old, insert-cases}
@@ -21,25 +22,6 @@ use Rattle.rules.proofs.Laws.{doing-in}
 use Rattle.codes.specs.Codes.{bits, placeOf, noted, notedAll, blank, setsOf, codeOf, covers, avoids, calm, stirs, madeBy, jointOf, Sound, none, one}
 use Rattle.codes.proofs.Body.{noted-length, sets-length}
 use Rattle.codes.specs.Table.{InSlot, setsIn, memberIn}
-
--- ---- tests that hold together
-same-truth : (a b : Bool) → (a ≡ true → b ≡ true) → (b ≡ true → a ≡ true) → a ≡ b
-same-truth true true f g = refl
-same-truth true false f g = sym (f refl)
-same-truth false true f g = g refl
-same-truth false false f g = refl
-
-both : (a b : Bool) → a ≡ true → b ≡ true → (a && b) ≡ true
-both a b p q = rw (p, q) refl
-
-left : (a b : Bool) → (a && b) ≡ true → a ≡ true
-left true b h = refl
-left false b h = h
-
-right : (a b : Bool) → (a && b) ≡ true → b ≡ true
-right true b h = h
-right false true h = refl
-right false false h = h
 
 -- ---- covers and avoids, by members
 covers-part : (x w : ℕ) → covers x w ≡ true → (i : ℕ) → i ∈ w → i ∈ x
@@ -74,47 +56,31 @@ not-has x i h = go (bit-cases x i)
 
 -- One member more in the set that is asked for.
 pub covers-insert : (x w i : ℕ) → covers x (insert w i) ≡ (has x i && covers x w)
-covers-insert x w i = same-truth (covers x (insert w i)) (has x i && covers x w)
-    (λ h. both (has x i) (covers x w) (eq-eqb (bit x i) 1 (covers-part x (insert w i) h i (insert-new w i)))
+covers-insert x w i = same-test (covers x (insert w i)) (has x i && covers x w)
+    (λ h. and-both (eq-eqb (bit x i) 1 (covers-part x (insert w i) h i (insert-new w i)))
     (part-covers x w (λ j k. covers-part x (insert w i) h j (insert-old w i j k))))
-    (λ h. part-covers x (insert w i) (λ j k. go j (eqb-true (bit x i) 1 (left (has x i) (covers x w) h)) (right (has x i) (covers x w) h) (insert-cases w i j k)))
+    (λ h. part-covers x (insert w i) (λ j k. go j (eqb-true (bit x i) 1 (and-left (has x i) (covers x w) h)) (and-right (has x i) (covers x w) h) (insert-cases w i j k)))
   where
     go : (j : ℕ) → i ∈ x → covers x w ≡ true → (j ∈ w) ⊎ (j ≡ i) → j ∈ x
     go j p q (inl k) = covers-part x w q j k
     go j p q (inr e) = ap (λ (y : ℕ). bit x y) e ∙ p
 
 pub avoids-insert : (x w i : ℕ) → avoids x (insert w i) ≡ (not (has x i) && avoids x w)
-avoids-insert x w i = same-truth (avoids x (insert w i)) (not (has x i) && avoids x w)
-    (λ h. both (not (has x i)) (avoids x w) (has-not x i (avoids-none x (insert w i) h i (insert-new w i)))
+avoids-insert x w i = same-test (avoids x (insert w i)) (not (has x i) && avoids x w)
+    (λ h. and-both (has-not x i (avoids-none x (insert w i) h i (insert-new w i)))
     (none-avoids x w (λ j k. avoids-none x (insert w i) h j (insert-old w i j k))))
-    (λ h. none-avoids x (insert w i) (λ j k. go j (not-has x i (left (not (has x i)) (avoids x w) h)) (right (not (has x i)) (avoids x w) h) (insert-cases w i j k)))
+    (λ h. none-avoids x (insert w i) (λ j k. go j (not-has x i (and-left (not (has x i)) (avoids x w) h)) (and-right (not (has x i)) (avoids x w) h) (insert-cases w i j k)))
   where
     go : (j : ℕ) → i ∉ x → avoids x w ≡ true → (j ∈ w) ⊎ (j ≡ i) → j ∉ x
     go j p q (inl k) = avoids-none x w q j k
     go j p q (inr e) = ap (λ (y : ℕ). bit x y) e ∙ p
 
 -- ---- the set of a joint move
-or-false : (a : Bool) → (a || false) ≡ a
-or-false true = refl
-or-false false = refl
-
-and-false : (a : Bool) → (a && false) ≡ false
-and-false true = refl
-and-false false = refl
-
-and-true : (a : Bool) → (a && true) ≡ a
-and-true true = refl
-and-true false = refl
-
-and-assoc : (a b c : Bool) → ((a && b) && c) ≡ (a && (b && c))
-and-assoc true b c = refl
-and-assoc false b c = refl
-
 -- Two moves stand at the same place where role and move are the same.
 same-place : (r m a b : ℕ) → m < 16 → b < 16 → eqb (16 * r + m) (16 * a + b) ≡ (eqb r a && eqb m b)
-same-place r m a b h k = same-truth (eqb (16 * r + m) (16 * a + b)) (eqb r a && eqb m b)
-    (λ e. let p : 16 * r + m ≡ 16 * a + b = eqb-true (16 * r + m) (16 * a + b) e in both (eqb r a) (eqb m b) (eq-eqb r a (omega arith)) (eq-eqb m b (omega arith)))
-    (λ e. let p : r ≡ a = eqb-true r a (left (eqb r a) (eqb m b) e) in let q : m ≡ b = eqb-true m b (right (eqb r a) (eqb m b) e) in
+same-place r m a b h k = same-test (eqb (16 * r + m) (16 * a + b)) (eqb r a && eqb m b)
+    (λ e. let p : 16 * r + m ≡ 16 * a + b = eqb-true (16 * r + m) (16 * a + b) e in and-both (eq-eqb r a (omega arith)) (eq-eqb m b (omega arith)))
+    (λ e. let p : r ≡ a = eqb-true r a (and-left (eqb r a) (eqb m b) e) in let q : m ≡ b = eqb-true m b (and-right (eqb r a) (eqb m b) e) in
     eq-eqb (16 * r + m) (16 * a + b) (omega arith))
 
 has-made : (r m x a b : ℕ) → b < 16 → has (madeBy r m x) (16 * a + b) ≡ ((eqb r a && eqb m b) || has x (16 * a + b))

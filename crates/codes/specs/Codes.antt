@@ -1,5 +1,5 @@
 -- The code of a rule: its body as five sets, by which it is seen at once whether all its literals hold, and the member that its head adds.
-use Prim.Native.Nat.{ℕ, zero, suc, _+_, _-_, _*_, _≤_, _<_}
+use Prim.Native.Nat.{ℕ, _+_, _-_, _*_, _≤_, _<_}
 use mathlib.Core.Path.{_≡_}
 use mathlib.Core.Bool.{Bool, cond, _&&_}
 use mathlib.Core.List.{List, [], _∷_, _++_}
@@ -11,7 +11,6 @@ use Rattle.sheet.specs.Limits.{mostMoves}
 use Rattle.sheet.specs.Data.{Part, Rule}
 use Rattle.rules.specs.Kinds.{DOES}
 use Rattle.rules.specs.declared.Ask.{Ask}
-use Rattle.rules.specs.declared.Ask.the-variants.{View}
 use Rattle.rules.specs.Rules.{memberOf}
 
 -- How many members a set may have: the bits of a word.

@@ -10,7 +10,6 @@ use lib.ListN.{length, getD, take}
 use Rattle.tables.specs.Lengths.{stateLimit, moveLimit}
 use Rattle.tables.specs.Pad.{pad}
 use Rattle.tables.proofs.Pad.{take-pad}
-use Rattle.sheet.specs.declared.Fault.{Fault}
 use Rattle.sheet.specs.Reading.{IsRefused}
 use Rattle.views.specs.Meaning.{viewRules, IsPlace}
 use Rattle.meaning.specs.Lists.{_∈_}
@@ -26,7 +25,7 @@ use Rattle.position.proofs.Nodes.{nodes-in-order}
 use Rattle.engine.specs.declared.Refusal.{Refusal}
 use Rattle.engine.specs.declared.Refusal.the-variants.{Table, Sheet as BadSheet, Strata, NoChoice, ManyMoves, ManyStates}
 use Rattle.engine.specs.declared.Answer.{Answer}
-use Rattle.engine.specs.declared.Answer.the-variants.{Accepted, Refused}
+use Rattle.engine.specs.declared.Answer.the-variants.{Refused}
 use Rattle.engine.specs.Promise.{Tables, RightLengths, zero-tables, Reads, Game, Solves, Meets}
 use Rattle.engine.specs.Used.{used}
 use Rattle.engine.proofs.Right.{answer-unique}

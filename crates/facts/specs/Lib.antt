@@ -3,3 +3,4 @@ pub mod Bits
 pub mod Laws
 pub mod Pack
 pub mod Sets
+pub mod Truth

@@ -7,12 +7,12 @@ use native.Mathlib.Omega.{arith}
 use borrow.Author.Tests.{eqb-true}
 use lib.Bits.{bitAnd}
 use lib.ListN.{length}
+use Rattle.facts.specs.Truth.{and-left}
 use Rattle.facts.specs.Bits.{bit, has, insert}
 use Rattle.facts.specs.Laws.{has-and}
 use Rattle.sheet.specs.Limits.{mostViews}
 use Rattle.views.specs.Reference.{settle}
 use Rattle.views.proofs.Settle.{settle-yes, settle-here, settle-on, settle-out}
-use Rattle.views.proofs.Lists.{and-left}
 use Rattle.codes.specs.Codes.{covers, avoids, calm, stirs, jointOf}
 use Rattle.codes.specs.Table.{width, word, setsIn, memberIn, addedBy, collected, Slots}
 use Rattle.firing.specs.Firing.{noMoves, sweepBy, settledBy, fromOf, toOf, levelsBy, Level}

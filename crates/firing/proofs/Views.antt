@@ -9,6 +9,7 @@ use native.Mathlib.Omega.{arith}
 use borrow.Author.Tests.{eqb-true, eqb-false}
 use lib.Dec.{eqb, ltb}
 use lib.ListN.{getD, length}
+use Rattle.facts.specs.Truth.{either}
 use Rattle.facts.specs.Bits.{has, insert}
 use Rattle.facts.specs.Laws.{bit-none}
 use Rattle.sheet.specs.Limits.{mostViews}
@@ -19,7 +20,6 @@ use Rattle.rules.specs.declared.Ask.the-variants.{View}
 use Rattle.rules.specs.Rules.{fires, over, lookOf, added, gathered, nextFacts, legalsSet, isTerminal}
 use Rattle.views.specs.Reference.{settle, layer, layered}
 use Rattle.views.specs.Sheet.{lookAt, sweepOf, viewsAt}
-use Rattle.views.proofs.Lists.{either}
 use Rattle.views.proofs.Settle.{settle-same}
 use Rattle.views.proofs.Laws.{layer-none, layer-some}
 use Rattle.codes.specs.Codes.{jointOf, AllSound}

@@ -1,20 +1,19 @@
-// A number found among many: the numbers of a table stand on chains, by remainder, and only one chain is walked.
+// A number found among many: the numbers of a table are the ends of a tree of tests, and one way of at most 64 steps is walked.
 ghost use mathlib.Core.Path.{_≡_};
-ghost use Prim.Native.Nat.{_+_, _<_};
-ghost use lib.ListN.{length, getD, take, set};
+ghost use Prim.Native.Nat.{ℕ, _+_, _*_, _≤_, _<_};
+ghost use lib.ListN.{take};
+ghost use Rattle.facts.specs.Bits.{bit};
 ghost use Rattle.tables.specs.Lengths.{stateLimit};
-ghost use Rattle.tables.specs.Place.{place};
-ghost use Rattle.lookup.specs.Chains.{chains, chainOf, Chained};
+ghost use Rattle.meaning.specs.Lists.{place};
+ghost use Rattle.lookup.specs.Tree.{Spotted, Lands, Forked, Treed, Enrolled, FirstDifference};
+use facts::FactSet;
+use tables::STATE_LIMIT;
 
-// How many chains there are.
-pub const CHAINS: usize = 1021;
+// How many places for links there are: two for each state.
+pub const LINK_LIMIT: usize = 2048;
 
-// The chain of a number.
-pub fn chain_of(x: u64) -> usize
-    ensures { λ r. ⌜ r ≡ chainOf x ⌝ }
-{
-    x as usize % CHAINS
-}
+// How many facts can be tested.
+const FACT_LIMIT: u8 = 64;
 
 // A sixteen-bit number as an index.
 fn wide(x: u16) -> usize
@@ -23,30 +22,83 @@ fn wide(x: u16) -> usize
     x as usize
 }
 
-// The place of x among the first n entries of a table, or n: its chain is walked from the last entry on it to the first.
-pub fn seek(table: &[u64], slots: &[u16], links: &[u16], n: usize, x: u64) -> usize
-    requires { ⌜ Chained (now table) n (now slots) (now links) ⌝ }
-    ensures { λ r. ⌜ r ≡ place x (take n (now (table .entry))) ⌝ }
+// The answer of the number x to a test of fact f.
+fn side(x: u64, f: u8) -> usize
+    ensures { λ r. ⌜ r ≡ bit x f ⌝ }
 {
-    let h = chain_of(x);
-    let mut c = wide(slots[h]);
-    while c != 0 {
-        let i = c - 1;
-        if table[i] == x {
-            return i;
-        }
-        c = wide(links[i]);
-    }
-    n
+    if FactSet::of(x).has(f) { 1 } else { 0 }
 }
 
-// The number x, which stands at place n, becomes the last on its chain.
-pub fn enroll(slots: &mut [u16], links: &mut [u16], n: usize, x: u64)
-    requires { ⌜ (length (now slots) ≡ chains) × (length (now links) ≡ stateLimit) × (n < stateLimit) ⌝ }
-    ensures { λ _. ⌜ (now (slots .exit) ≡ set (now (slots .entry)) (chainOf x) (n + 1))
-        × (now (links .exit) ≡ set (now (links .entry)) n (getD (now (slots .entry)) (chainOf x) 0)) ⌝ }
+// The link at which node k, which tests fact f, goes on for the number x.
+fn fork_at(k: usize, x: u64, f: u8) -> usize
+    requires { ⌜ k < stateLimit ⌝ }
+    ensures { λ r. ⌜ r ≡ 2 * k + bit x f ⌝ }
 {
-    let h = chain_of(x);
-    links[n] = slots[h];
-    slots[h] = (n + 1) as u16;
+    2 * k + side(x, f)
+}
+
+// The first link on the way of x that does not lead to a node with a test below d.
+fn spot(tests: &[u8], forks: &[u16], x: u64, d: u8) -> usize
+    requires { ⌜ ((n : ℕ) × Forked n (now tests) (now forks)) ⌝ }
+    ensures { λ r. ⌜ Spotted (now (tests .entry)) (now (forks .entry)) x d r ⌝ }
+{
+    let mut p: usize = 0;
+    let mut c = wide(forks[0]);
+    while STATE_LIMIT <= c {
+        let k = c - STATE_LIMIT;
+        let f = tests[k];
+        if d <= f {
+            return p;
+        }
+        p = fork_at(k, x, f);
+        c = wide(forks[p]);
+    }
+    p
+}
+
+// The entry at which the way of x ends.
+fn land(tests: &[u8], forks: &[u16], x: u64) -> usize
+    requires { ⌜ ((n : ℕ) × Forked n (now tests) (now forks)) ⌝ }
+    ensures { λ r. ⌜ Lands (now (tests .entry)) (now (forks .entry)) x r ⌝ }
+{
+    let p = spot(tests, forks, x, FACT_LIMIT);
+    wide(forks[p])
+}
+
+// The lowest fact in which two numbers differ.
+fn first_difference(a: u64, b: u64) -> u8
+    requires { ⌜ (a ≡ b → ⊥) ⌝ }
+    ensures { λ r. ⌜ FirstDifference a b r ⌝ }
+{
+    u64::trailing_zeros(a ^ b) as u8
+}
+
+// The place of x among the first n entries of a table, or n: only the entry where its way ends can be x.
+pub fn seek(table: &[u64], tests: &[u8], forks: &[u16], n: usize, x: u64) -> usize
+    requires { ⌜ Treed (now table) n (now tests) (now forks) ⌝ }
+    ensures { λ r. ⌜ r ≡ place x (take n (now (table .entry))) ⌝ }
+{
+    let i = land(tests, forks, x);
+    if table[i] == x { i } else { n }
+}
+
+// The number x, which is none of the first n entries, comes in as entry n. Node n tests the lowest fact in which x differs from the entry where its way ends; it takes the
+// place of the first link on the way whose target tests nothing below that.
+pub fn enroll(table: &[u64], tests: &mut [u8], forks: &mut [u16], n: usize, x: u64)
+    requires { ⌜ Treed (now table) n (now tests) (now forks) × (n ≤ place x (take n (now table))) × (n < stateLimit) ⌝ }
+    ensures { λ _. ⌜ Enrolled (now (table .entry)) n x (now (tests .exit)) (now (forks .exit)) ⌝ }
+{
+    let i = land(tests, forks, x);
+    let y = table[i];
+    let d = first_difference(y, x);
+    let q = spot(tests, forks, x, d);
+    let was = forks[q];
+    let entry = n as u16;
+    let node = (STATE_LIMIT + n) as u16;
+    let new = fork_at(n, x, d);
+    let old = fork_at(n, y, d);
+    tests[n] = d;
+    forks[new] = entry;
+    forks[old] = was;
+    forks[q] = node;
 }

@@ -9,10 +9,11 @@ use native.Mathlib.Numerals.{add-one}
 use native.Mathlib.Nat.{le-refl, not-suc-le-zero, le-of-suc-le-suc}
 use lib.ListN.{getD, length, set}
 use borrow.Author.Tests.{eq-eqb, ne-eqb, le-leb, lt-leb, lt-ltb, le-ltb}
+use Rattle.facts.specs.Truth.{clash}
 use Rattle.atl.specs.Bounded.{lowest}
 use Rattle.atl.specs.Game.{Game, States}
 use Rattle.atl.specs.Marking.{unset, secures, force, counted}
-use Rattle.atl.proofs.Bounded.{some-next, some-fails, lowest-le, lowest-found, lowest-none, clash}
+use Rattle.atl.proofs.Bounded.{some-next, some-fails, lowest-le, lowest-found, lowest-none}
 use Rattle.radix.specs.Classes.{movesAt}
 use Rattle.radix.proofs.Filling.{filled-length}
 use Rattle.marking.specs.Table.{inTables, side, Tables, Block}

@@ -6,10 +6,11 @@ use Prim.Native.Nat.{ℕ, _+_, _≤_, _<_}
 use native.Mathlib.Omega.{arith}
 use lib.ListN.{getD, length}
 use borrow.Author.Tests.{eq-eqb, not-true}
+use Rattle.facts.specs.Truth.{clash, unless-true, and-left, and-right, and-both}
 use Rattle.atl.specs.Bounded.{tabulate}
 use Rattle.atl.specs.Game.{Game, IsGame, States}
 use Rattle.atl.specs.Marking.{unset, secures, force, swept}
-use Rattle.atl.proofs.Bounded.{and-left, and-right, and-both, unless-true, clash, some-cong, every-cong}
+use Rattle.atl.proofs.Bounded.{some-cong, every-cong}
 use Rattle.atl.proofs.Play as play
 use Rattle.atl.proofs.Spread as spread
 use Rattle.marking.specs.Table.{inTables, Tables}

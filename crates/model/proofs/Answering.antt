@@ -18,7 +18,7 @@ use Rattle.offer.proofs.Right.{joints-right, role-right, target-right}
 use Rattle.model.specs.declared.Listing.{Listing}
 use Rattle.model.specs.declared.Listing.the-variants.{Done, Over}
 use Rattle.offer.specs.Offer.{roleLimit}
-use Rattle.lookup.specs.Chains.{Chained}
+use Rattle.lookup.specs.Tree.{Treed}
 use Rattle.model.specs.Counts.{countOf, rowOf}
 use Rattle.model.specs.Views.{viewsOf}
 use Rattle.model.specs.Tables.{Holds, Stage}
@@ -50,16 +50,16 @@ module _ (d : Sheet) (fit : Fits d) (limit joints : ℕ) {k n at : ℕ} {st sa s
   pub too-many-moves : (m ≡ 0 → ⊥) → joints - at < m → IsRefusal (rulesOf d) limit joints 7 k
   too-many-moves = stop-7 (rulesOf d) (viewsOf d) limit joints g h x m x-is moves-are
 
-  module _ (some : m ≡ 0 → ⊥) (few : m ≤ joints - at) (r : Listing) (st′ sl′ li′ su′ : List ℕ)
-      (w : Listed limit joints (take n st) (take at su) (tabulate m (targetOf d o)) r st′ sl′ li′ su′ (at + m)) where
+  module _ (some : m ≡ 0 → ⊥) (few : m ≤ joints - at) (r : Listing) (st′ te′ fo′ su′ : List ℕ)
+      (w : Listed limit joints (take n st) (take at su) (tabulate m (targetOf d o)) r st′ te′ fo′ su′ (at + m)) where
     pub too-many-states : r ≡ Over → IsRefusal (rulesOf d) limit joints 6 k
     too-many-states e =
         stop-6 (rulesOf d) (viewsOf d) limit joints g h x m x-is moves-are (targetOf d o) lead some few
-        (subst (λ (q : Listing). Listed limit joints (take n st) (take at su) (tabulate m (targetOf d o)) q st′ sl′ li′ su′ (at + m)) e w)
+        (subst (λ (q : Listing). Listed limit joints (take n st) (take at su) (tabulate m (targetOf d o)) q st′ te′ fo′ su′ (at + m)) e w)
 
     pub one-more : {more v : ℕ} {co′ : List ℕ} → r ≡ Done more → v ≡ o .look .views .bits → Holds (roleLimit * limit) co′ (roleLimit * (k + 1)) (take (roleLimit * k) co ++ tabulate roleLimit (roleOf o (d .sizes .roles)))
-        → Stage (rulesOf d) (viewsOf d) limit joints (k + 1) st′ more (set sa (k + 1) (at + m)) su′ (at + m) co′ (set vi k v) × Chained st′ more sl′ li′
+        → Stage (rulesOf d) (viewsOf d) limit joints (k + 1) st′ more (set sa (k + 1) (at + m)) su′ (at + m) co′ (set vi k v) × Treed st′ more te′ fo′
     one-more {more} {v} {co′} e v-is c =
-        let u : Listed limit joints (take n st) (take at su) (tabulate m (targetOf d o)) (Done more) st′ sl′ li′ su′ (at + m) =
-        subst (λ (q : Listing). Listed limit joints (take n st) (take at su) (tabulate m (targetOf d o)) q st′ sl′ li′ su′ (at + m)) e w in
+        let u : Listed limit joints (take n st) (take at su) (tabulate m (targetOf d o)) (Done more) st′ te′ fo′ su′ (at + m) =
+        subst (λ (q : Listing). Listed limit joints (take n st) (take at su) (tabulate m (targetOf d o)) q st′ te′ fo′ su′ (at + m)) e w in
         (next (rulesOf d) (viewsOf d) limit joints g h x m x-is moves-are (targetOf d o) lead some few more st′ su′ co′ _ row-is v (views-are v-is) (u .0) (u .1) c, u .2)

@@ -3,12 +3,12 @@ use Prim.Native.Nat.{ℕ, zero, suc, _+_, _-_, _*_, _≤_, _<_}
 use mathlib.Core.Path.{_≡_, refl, sym, ap, _∙_, subst}
 use mathlib.Core.List.{List, [], _∷_}
 use native.Mathlib.Omega.{arith}
-use lib.ListN.{length, getD, set, replicate}
+use lib.ListN.{length, set, replicate}
 use Rattle.tables.specs.Lengths.{stateLimit}
 use Rattle.tables.specs.Pad.{pad}
-use Rattle.tables.proofs.Pad.{length-pad, getD-pad, set-pad, cleared}
-use Rattle.lookup.specs.Chains.{chains, chainOf, Chained}
-use Rattle.lookup.proofs.Chains.{chained-none, chained-more}
+use Rattle.tables.proofs.Pad.{length-pad, set-pad, cleared}
+use Rattle.lookup.specs.Tree.{linkLimit, Treed}
+use Rattle.lookup.proofs.Enrolling.{treed-first}
 use Rattle.meaning.specs.Rules.{Rules}
 use Rattle.meaning.proofs.Explore.{found-first}
 use Rattle.meaning.proofs.Outcome.{begun}
@@ -57,11 +57,8 @@ first R seen {limit} {joints} {x} {st} f e h = record {
   views-hold = record { is = f .views-zero; count = refl; room = omega arith };
 }
 
--- and it alone stands on a chain
-pub first-chained : {limit joints x : ℕ} {st sa su co vi : List ℕ} → Fresh limit joints x st sa su co vi → 0 < limit → (slots links : List ℕ)
-    → slots ≡ set (replicate chains 0) (chainOf x) 1 → links ≡ set (replicate stateLimit 0) 0 (getD (replicate chains 0) (chainOf x) 0) → Chained st 1 slots links
-first-chained {limit} {x = x} {st} f h slots links p q =
+-- and it alone is in the tree
+pub first-treed : {limit joints x : ℕ} {st sa su co vi : List ℕ} → Fresh limit joints x st sa su co vi → 0 < limit → Treed st 1 (replicate stateLimit 0) (replicate linkLimit 0)
+first-treed {limit} {x = x} {st} f h =
     let one : 1 ≤ limit = omega arith in
-    rw (p, q)
-    (chained-more (chained-none st) x (ap (λ (l : List ℕ). getD l 0 0) (f .states-are) ∙ getD-pad limit (x ∷ []) 0) (λ i b. absurd (omega arith))
-    (omega (arith, ap length (f .states-are) ∙ length-pad limit (x ∷ []) one)) (omega arith))
+    treed-first st (omega (arith, ap length (f .states-are) ∙ length-pad limit (x ∷ []) one))

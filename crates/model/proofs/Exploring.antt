@@ -9,17 +9,17 @@ use Rattle.model.specs.declared.Step.{Step}
 use Rattle.model.specs.declared.Step.the-variants.{Next, Stop}
 use Rattle.model.specs.declared.Built.{Built}
 use Rattle.model.specs.declared.Built.the-variants.{Accepted, Refused}
-use Rattle.lookup.specs.Chains.{Chained}
+use Rattle.lookup.specs.Tree.{Treed}
 use Rattle.model.specs.Tables.{Sized, Zeros, Stage}
 use Rattle.model.specs.Answers.{numberOf, placeOf, Expanded, Explored, Builds}
 use Rattle.model.proofs.Holding.{holds-length}
 
-module _ (R : Rules) (seen : ℕ → ℕ) (limit joints k : ℕ) {r : Step} (st sl li sa su co vi : List ℕ) (w : Expanded R seen limit joints k r st sl li sa su co vi) where
-  pub went-on : {n at : ℕ} → r ≡ Next n at → Stage R seen limit joints (k + 1) st n sa su at co vi × Chained st n sl li
-  went-on e = subst (λ (q : Step). Expanded R seen limit joints k q st sl li sa su co vi) e w
+module _ (R : Rules) (seen : ℕ → ℕ) (limit joints k : ℕ) {r : Step} (st te fo sa su co vi : List ℕ) (w : Expanded R seen limit joints k r st te fo sa su co vi) where
+  pub went-on : {n at : ℕ} → r ≡ Next n at → Stage R seen limit joints (k + 1) st n sa su at co vi × Treed st n te fo
+  went-on e = subst (λ (q : Step). Expanded R seen limit joints k q st te fo sa su co vi) e w
 
   pub stopped : {f : Refusal} → r ≡ Stop f → IsRefusal R limit joints (numberOf f) (placeOf f)
-  stopped e = subst (λ (q : Step). Expanded R seen limit joints k q st sl li sa su co vi) e w
+  stopped e = subst (λ (q : Step). Expanded R seen limit joints k q st te fo sa su co vi) e w
 
 module _ (R : Rules) (seen : ℕ → ℕ) (limit joints : ℕ) {r : Built} (st sa su co vi : List ℕ) (w : Explored R seen limit joints r st sa su co vi) where
   pub accepted : {n m : ℕ} → r ≡ Accepted n m → Builds R seen limit joints r st sa su co vi

@@ -9,8 +9,8 @@ use lib.ListN.{length, getD, take, drop, set, length-append, take-append-drop}
 use lib.Seq.{take-all}
 use Rattle.atl.specs.Bounded.{tabulate}
 use Rattle.atl.proofs.Bounded.{length-tabulate, getD-tabulate}
-use Rattle.tables.proofs.Place.{place-le}
-use Rattle.lookup.specs.Chains.{Chained}
+use Rattle.lookup.proofs.Place.{place-le}
+use Rattle.lookup.specs.Tree.{Treed}
 use Rattle.meaning.specs.Lists.{place}
 use Rattle.meaning.specs.Filling.{grown, add}
 use Rattle.meaning.proofs.Filling.{add-append, add-take, add-more, numbers-take}
@@ -20,24 +20,23 @@ use Rattle.model.specs.declared.Listing.the-variants.{Done}
 use Rattle.model.specs.Tables.{Holds, numbers}
 use Rattle.model.specs.Answers.{Entered, Listed}
 use Rattle.model.proofs.Holding.{holds-take, holds-more, holds-counted}
-use Rattle.model.proofs.Entering.{same-place}
 
 -- the first j targets are listed
-pub record Going (limit joints : ℕ) (l z ts : List ℕ) (j : ℕ) (states slots links : List ℕ) (n : ℕ) (successors : List ℕ) (at : ℕ) : Type 0 where
+pub record Going (limit joints : ℕ) (l z ts : List ℕ) (j : ℕ) (states tests forks : List ℕ) (n : ℕ) (successors : List ℕ) (at : ℕ) : Type 0 where
   pub states-hold : Holds limit states n (add l (take j ts))
   pub successors-hold : Holds joints successors at (z ++ numbers (add l (take j ts)) (take j ts))
-  pub chained : Chained states n slots links
+  pub treed : Treed states n tests forks
 
 module _ {limit joints : ℕ} {l z : List ℕ} where
-  pub going-none : {states slots links successors : List ℕ} {n at : ℕ} (ts : List ℕ) → Holds limit states n l → Chained states n slots links → Holds joints successors at z
-      → Going limit joints l z ts 0 states slots links n successors (at + 0)
+  pub going-none : {states tests forks successors : List ℕ} {n at : ℕ} (ts : List ℕ) → Holds limit states n l → Treed states n tests forks → Holds joints successors at z
+      → Going limit joints l z ts 0 states tests forks n successors (at + 0)
   going-none {n = n} {at} ts h c g = record {
     states-hold = h;
     successors-hold = rw (add-zero at, append-nil z) g;
-    chained = c;
+    treed = c;
   }
 
-  module _ (m : ℕ) (f : ℕ → ℕ) {j t : ℕ} {states slots links successors : List ℕ} {n at : ℕ} (g : Going limit joints l z (tabulate m f) j states slots links n successors at) (is : t ≡ f j) (b : j < m) where
+  module _ (m : ℕ) (f : ℕ → ℕ) {j t : ℕ} {states tests forks successors : List ℕ} {n at : ℕ} (g : Going limit joints l z (tabulate m f) j states tests forks n successors at) (is : t ≡ f j) (b : j < m) where
     abbrev ts : List ℕ
     ts = tabulate m f
 
@@ -58,16 +57,16 @@ module _ {limit joints : ℕ} {l z : List ℕ} where
         (ap (λ (x : ℕ). numbers (add l (take j ts)) (take j ts) ++ (place x (add l (take j ts)) ∷ [])) one
         ∙ sym (ap (λ (k : ℕ). numbers (add l (take k ts)) (take k ts)) (add-one j) ∙ numbers-take l ts j inside))
 
-    pub going-fits : (r : Slot) (i more : ℕ) (states′ slots′ links′ : List ℕ) → r ≡ At i more → Entered limit (take n states) t r states′ slots′ links′ → i ≤ limit
-    going-fits r i more states′ slots′ links′ e w =
-        let q : Entered limit (take n states) t (At i more) states′ slots′ links′ = subst (λ (x : Slot). Entered limit (take n states) t x states′ slots′ links′) e w in
-        omega (arith, q .0, same-place t (take n states), place-le t (take n states), ap length (holds-take (g .states-hold)), g .states-hold .count, g .states-hold .room)
+    pub going-fits : (r : Slot) (i more : ℕ) (states′ tests′ forks′ : List ℕ) → r ≡ At i more → Entered limit (take n states) t r states′ tests′ forks′ → i ≤ limit
+    going-fits r i more states′ tests′ forks′ e w =
+        let q : Entered limit (take n states) t (At i more) states′ tests′ forks′ = subst (λ (x : Slot). Entered limit (take n states) t x states′ tests′ forks′) e w in
+        omega (arith, q .0, place-le t (take n states), ap length (holds-take (g .states-hold)), g .states-hold .count, g .states-hold .room)
 
-    pub going-more : (r : Slot) (i more : ℕ) (states′ slots′ links′ : List ℕ) → r ≡ At i more → Entered limit (take n states) t r states′ slots′ links′ → at < joints → (q : ℕ) → q ≡ at + 1
-        → Going limit joints l z (tabulate m f) (j + 1) states′ slots′ links′ more (set successors at i) q
-    going-more r i more states′ slots′ links′ e w room c c-is =
-        let q : Entered limit (add l (take j (tabulate m f))) t (At i more) states′ slots′ links′ =
-        subst (λ (k : List ℕ). Entered limit k t (At i more) states′ slots′ links′) (holds-take (g .states-hold)) (subst (λ (x : Slot). Entered limit (take n states) t x states′ slots′ links′) e w) in
+    pub going-more : (r : Slot) (i more : ℕ) (states′ tests′ forks′ : List ℕ) → r ≡ At i more → Entered limit (take n states) t r states′ tests′ forks′ → at < joints → (q : ℕ) → q ≡ at + 1
+        → Going limit joints l z (tabulate m f) (j + 1) states′ tests′ forks′ more (set successors at i) q
+    going-more r i more states′ tests′ forks′ e w room c c-is =
+        let q : Entered limit (add l (take j (tabulate m f))) t (At i more) states′ tests′ forks′ =
+        subst (λ (k : List ℕ). Entered limit k t (At i more) states′ tests′ forks′) (holds-take (g .states-hold)) (subst (λ (x : Slot). Entered limit (take n states) t x states′ tests′ forks′) e w) in
         record {
           states-hold = subst (λ (k : List ℕ). Holds limit states′ more k) grows (q .1);
           successors-hold =
@@ -75,19 +74,19 @@ module _ {limit joints : ℕ} {l z : List ℕ} where
               (subst (λ (k : List ℕ). Holds joints (set successors at i) (at + 1) k)
               (ap (λ (x : ℕ). (z ++ numbers (add l (take j ts)) (take j ts)) ++ (x ∷ [])) (q .0) ∙ stored)
               (holds-more (g .successors-hold) i room)) c-is;
-          chained = q .2;
+          treed = q .2;
         }
 
-    pub going-over : (r : Slot) (states′ slots′ links′ : List ℕ) → r ≡ Full → Entered limit (take n states) t r states′ slots′ links′ → limit < length (add l (tabulate m f))
-    going-over r states′ slots′ links′ e w =
+    pub going-over : (r : Slot) (states′ tests′ forks′ : List ℕ) → r ≡ Full → Entered limit (take n states) t r states′ tests′ forks′ → limit < length (add l (tabulate m f))
+    going-over r states′ tests′ forks′ e w =
         let q : limit < length (grown (add l (take j (tabulate m f))) t) =
-        subst (λ (k : List ℕ). Entered limit k t Full states′ slots′ links′) (holds-take (g .states-hold)) (subst (λ (x : Slot). Entered limit (take n states) t x states′ slots′ links′) e w) in
+        subst (λ (k : List ℕ). Entered limit k t Full states′ tests′ forks′) (holds-take (g .states-hold)) (subst (λ (x : Slot). Entered limit (take n states) t x states′ tests′ forks′) e w) in
         let (u, v) = add-more (add l (take (j + 1) ts)) (drop (j + 1) ts) in
         let all = ap (add l) (sym (take-append-drop (j + 1) ts)) ∙ add-append l (take (j + 1) ts) (drop (j + 1) ts) ∙ v in
         omega (arith, q, ap length grows, ap length all, length-append (add l (take (j + 1) ts)) u)
 
-  pub going-all : (m : ℕ) (f : ℕ → ℕ) {j : ℕ} {states slots links successors : List ℕ} {n at : ℕ} → Going limit joints l z (tabulate m f) j states slots links n successors at → m ≤ j → (q : ℕ) → q ≡ at
-      → Listed limit joints l z (tabulate m f) (Done n) states slots links successors q
-  going-all m f {j} {states} {slots} {links} {successors} {n} {at} g b q e =
+  pub going-all : (m : ℕ) (f : ℕ → ℕ) {j : ℕ} {states tests forks successors : List ℕ} {n at : ℕ} → Going limit joints l z (tabulate m f) j states tests forks n successors at → m ≤ j → (q : ℕ) → q ≡ at
+      → Listed limit joints l z (tabulate m f) (Done n) states tests forks successors q
+  going-all m f {j} {states} {tests} {forks} {successors} {n} {at} g b q e =
       let whole : take j (tabulate m f) ≡ tabulate m f = take-all j (tabulate m f) (omega (arith, length-tabulate m f)) in
-      rw e (rw whole at (g .states-hold), rw whole at (g .successors-hold), g .chained)
+      rw e (rw whole at (g .states-hold), rw whole at (g .successors-hold), g .treed)

@@ -11,7 +11,7 @@ use Rattle.offer.specs.Offer.{roleLimit}
 use Rattle.model.specs.Counts.{counts}
 use Rattle.model.specs.Tables.{Holds, numbers, Zeros, Stage}
 use Rattle.meaning.specs.Lists.{place}
-use Rattle.lookup.specs.Chains.{Chained}
+use Rattle.lookup.specs.Tree.{Treed}
 use Rattle.model.specs.declared.Slot.{Slot}
 use Rattle.model.specs.declared.Slot.the-variants.{At, Full}
 use Rattle.model.specs.declared.Listing.{Listing}
@@ -35,23 +35,23 @@ placeOf (NoChoice k) = k
 placeOf (ManyMoves k) = k
 placeOf (ManyStates k) = k
 
--- What entering t into a table that holds l answers: the number of t, and the table holds l with t, on its chains; or there is no room.
-abbrev pub Entered : ℕ → List ℕ → ℕ → Slot → (states slots links : List ℕ) → Type 0
-Entered limit l t (At i n) states slots links = (i ≡ place t l) × Holds limit states n (grown l t) × Chained states n slots links
-Entered limit l t Full states slots links = limit < length (grown l t)
+-- What entering t into a table that holds l answers: the number of t, and the table holds l with t, in its tree; or there is no room.
+abbrev pub Entered : ℕ → List ℕ → ℕ → Slot → (states tests forks : List ℕ) → Type 0
+Entered limit l t (At i n) states tests forks = (i ≡ place t l) × Holds limit states n (grown l t) × Treed states n tests forks
+Entered limit l t Full states tests forks = limit < length (grown l t)
 
 -- What listing the targets ts answers, where the tables held the states l and the successors z.
-abbrev pub Listed : (limit joints : ℕ) (l z ts : List ℕ) → Listing → (states slots links successors : List ℕ) → ℕ → Type 0
-Listed limit joints l z ts (Done n) states slots links successors at =
-    Holds limit states n (add l ts) × Holds joints successors at (z ++ numbers (add l ts) ts) × Chained states n slots links
-Listed limit joints l z ts Over states slots links successors at = limit < length (add l ts)
+abbrev pub Listed : (limit joints : ℕ) (l z ts : List ℕ) → Listing → (states tests forks successors : List ℕ) → ℕ → Type 0
+Listed limit joints l z ts (Done n) states tests forks successors at =
+    Holds limit states n (add l ts) × Holds joints successors at (z ++ numbers (add l ts) ts) × Treed states n tests forks
+Listed limit joints l z ts Over states tests forks successors at = limit < length (add l ts)
 
 -- The game's rules, the views of each position, and the limits.
 module _ (R : Rules) (seen : ℕ → ℕ) (limit joints : ℕ) where
   -- What expanding position k answers: one position more is expanded, or it is refused.
-  abbrev pub Expanded : ℕ → Step → (states slots links starts successors counts views : List ℕ) → Type 0
-  Expanded k (Next n at) states slots links starts successors counts views = Stage R seen limit joints (k + 1) states n starts successors at counts views × Chained states n slots links
-  Expanded k (Stop f) states slots links starts successors counts views = IsRefusal R limit joints (numberOf f) (placeOf f)
+  abbrev pub Expanded : ℕ → Step → (states tests forks starts successors counts views : List ℕ) → Type 0
+  Expanded k (Next n at) states tests forks starts successors counts views = Stage R seen limit joints (k + 1) states n starts successors at counts views × Treed states n tests forks
+  Expanded k (Stop f) states tests forks starts successors counts views = IsRefusal R limit joints (numberOf f) (placeOf f)
 
   -- The model is accepted: the answer has its counts, and the tables hold it.
   pub record Accepts (n m : ℕ) (states-table starts-table successors-table counts-table views-table : List ℕ) : Type 0 where

@@ -9,7 +9,7 @@ ghost use Rattle.sheet.specs.Limits.{mostRules};
 ghost use Rattle.sheet.specs.Reading.{sheetIn};
 ghost use Rattle.position.specs.Position.{rulesOf};
 ghost use Rattle.offer.specs.Offer.{roleLimit, Whole, Studied, Coded, Lives, jointsOf, roleOf, targetOf};
-ghost use Rattle.lookup.specs.Chains.{Chained};
+ghost use Rattle.lookup.specs.Tree.{Treed};
 ghost use Rattle.model.specs.Views.{viewsOf};
 ghost use Rattle.model.specs.Tables.{Holds, Clean, Sized, Fresh, Stage};
 ghost use Rattle.model.specs.Answers.{Entered, Listed, Expanded, Explored, Builds};
@@ -17,7 +17,7 @@ use codes::CODE_ROOM;
 use codes::ENDS_ROOM;
 use codes::compile;
 use live::LIVE_ROOM;
-use lookup::CHAINS;
+use lookup::LINK_LIMIT;
 use lookup::enroll;
 use lookup::seek;
 use offer::Offer;
@@ -68,17 +68,17 @@ pub enum Built {
 }
 
 // The number of state t, which is entered where it is new.
-fn enter(states: &mut [u64], slots: &mut [u16], links: &mut [u16], n: usize, t: u64) -> Slot
-    requires { ⌜ Clean stateLimit (now states) n × Chained (now states) n (now slots) (now links) ⌝ }
-    ensures { λ r. ⌜ Entered stateLimit (take n (now (states .entry))) t r (now (states .exit)) (now (slots .exit)) (now (links .exit)) ⌝ }
+fn enter(states: &mut [u64], tests: &mut [u8], forks: &mut [u16], n: usize, t: u64) -> Slot
+    requires { ⌜ Clean stateLimit (now states) n × Treed (now states) n (now tests) (now forks) ⌝ }
+    ensures { λ r. ⌜ Entered stateLimit (take n (now (states .entry))) t r (now (states .exit)) (now (tests .exit)) (now (forks .exit)) ⌝ }
 {
-    let at = seek(states, slots, links, n, t);
+    let at = seek(states, tests, forks, n, t);
     if at < n {
         return Slot::At(at, n);
     }
     if n < STATE_LIMIT {
+        enroll(states, tests, forks, n, t);
         states[n] = t;
-        enroll(slots, links, n, t);
         return Slot::At(n, n + 1);
     }
     Slot::Full
@@ -94,22 +94,22 @@ fn list_targets(
     lives: usize,
     m: usize,
     states: &mut [u64],
-    slots: &mut [u16],
-    links: &mut [u16],
+    tests: &mut [u8],
+    forks: &mut [u16],
     n: usize,
     successors: &mut [u16],
     at: usize,
 ) -> Listing
-    requires { ⌜ Whole (now s) y × (m ≡ jointsOf o (y .sizes .roles)) × Clean stateLimit (now states) n × Chained (now states) n (now slots) (now links)
+    requires { ⌜ Whole (now s) y × (m ≡ jointsOf o (y .sizes .roles)) × Clean stateLimit (now states) n × Treed (now states) n (now tests) (now forks)
         × Clean moveLimit (now successors) at × (at + m ≤ moveLimit) × Lives (sheetIn (now s) y) o (now code) (now live) lives ⌝ }
     ensures { λ r. ⌜ Listed stateLimit moveLimit (take n (now (states .entry))) (take at (now (successors .entry))) (tabulate m (targetOf (sheetIn (now (s .entry)) y) o))
-        r (now (states .exit)) (now (slots .exit)) (now (links .exit)) (now (successors .exit)) (at + m) ⌝ }
+        r (now (states .exit)) (now (tests .exit)) (now (forks .exit)) (now (successors .exit)) (at + m) ⌝ }
 {
     let mut count = n;
     let mut j: usize = 0;
     while j < m {
         let t = target_of(s, y, o, code, live, lives, j);
-        let slot = enter(states, slots, links, count, t);
+        let slot = enter(states, tests, forks, count, t);
         match slot {
             Slot::At(i, more) => {
                 successors[at + j] = i as u16;
@@ -155,8 +155,8 @@ fn expand(
     moves: [u16; 4],
     k: usize,
     states: &mut [u64],
-    slots: &mut [u16],
-    links: &mut [u16],
+    tests: &mut [u8],
+    forks: &mut [u16],
     n: usize,
     starts: &mut [u16],
     successors: &mut [u16],
@@ -167,10 +167,10 @@ fn expand(
 ) -> Step
     requires { ⌜ Whole (now s) y × Studied (sheetIn (now s) y) (now masks) moves × (k < n)
         × Stage (rulesOf (sheetIn (now s) y)) (viewsOf (sheetIn (now s) y)) stateLimit moveLimit k (now states) n (now starts) (now successors) at (now counts) (now views)
-        × Chained (now states) n (now slots) (now links)
+        × Treed (now states) n (now tests) (now forks)
         × Coded (sheetIn (now s) y) (now masks) (now code) (now ends) × (mostRules ≤ length (now live)) ⌝ }
     ensures { λ r. ⌜ Expanded (rulesOf (sheetIn (now (s .entry)) y)) (viewsOf (sheetIn (now (s .entry)) y)) stateLimit moveLimit k r
-        (now (states .exit)) (now (slots .exit)) (now (links .exit)) (now (starts .exit)) (now (successors .exit)) (now (counts .exit)) (now (views .exit)) ⌝ }
+        (now (states .exit)) (now (tests .exit)) (now (forks .exit)) (now (starts .exit)) (now (successors .exit)) (now (counts .exit)) (now (views .exit)) ⌝ }
 {
     let x = states[k];
     let o = offer_at(s, y, masks, code, ends, moves, x);
@@ -195,8 +195,8 @@ fn expand(
         lives,
         m,
         states,
-        slots,
-        links,
+        tests,
+        forks,
         n,
         successors,
         at,
@@ -216,8 +216,8 @@ fn explore(
     ends: &[u16],
     moves: [u16; 4],
     states: &mut [u64],
-    slots: &mut [u16],
-    links: &mut [u16],
+    tests: &mut [u8],
+    forks: &mut [u16],
     starts: &mut [u16],
     successors: &mut [u16],
     counts: &mut [u16],
@@ -226,7 +226,7 @@ fn explore(
 ) -> Built
     requires { ⌜ Whole (now s) y × Studied (sheetIn (now s) y) (now masks) moves
         × Stage (rulesOf (sheetIn (now s) y)) (viewsOf (sheetIn (now s) y)) stateLimit moveLimit 0 (now states) 1 (now starts) (now successors) 0 (now counts) (now views)
-        × Chained (now states) 1 (now slots) (now links)
+        × Treed (now states) 1 (now tests) (now forks)
         × Coded (sheetIn (now s) y) (now masks) (now code) (now ends) × (mostRules ≤ length (now live)) ⌝ }
     ensures { λ r. ⌜ Explored (rulesOf (sheetIn (now (s .entry)) y)) (viewsOf (sheetIn (now (s .entry)) y)) stateLimit moveLimit r
         (now (states .exit)) (now (starts .exit)) (now (successors .exit)) (now (counts .exit)) (now (views .exit)) ⌝ }
@@ -244,8 +244,8 @@ fn explore(
             moves,
             k,
             states,
-            slots,
-            links,
+            tests,
+            forks,
             n,
             starts,
             successors,
@@ -307,9 +307,8 @@ pub fn build(
 {
     let x = initial(s, y);
     reset(x, states, starts, successors, counts, views);
-    let mut slots = [0u16; CHAINS];
-    let mut links = [0u16; STATE_LIMIT];
-    enroll(&mut slots, &mut links, 0, x);
+    let mut tests = [0u8; STATE_LIMIT];
+    let mut forks = [0u16; LINK_LIMIT];
     let mut code = [0u64; CODE_ROOM];
     let mut ends = [0u16; ENDS_ROOM];
     compile(s, y.top, y.rules, masks, &mut code, &mut ends);
@@ -322,8 +321,8 @@ pub fn build(
         &ends,
         moves,
         states,
-        &mut slots,
-        &mut links,
+        &mut tests,
+        &mut forks,
         starts,
         successors,
         counts,

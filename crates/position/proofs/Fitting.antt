@@ -7,7 +7,7 @@ use native.Mathlib.Omega.{arith}
 use borrow.Author.Tests.{ltb-true, leb-true, eqb-true, eqb-false, ne-eqb, not-true}
 use lib.Dec.{eqb, ltb, leb}
 use lib.ListN.{length}
-use Rattle.atl.proofs.Bounded.{and-left, and-right}
+use Rattle.facts.specs.Truth.{and-left, and-right}
 use Rattle.sheet.specs.declared.Sizes.{Sizes}
 use Rattle.sheet.specs.declared.Limits.{Limits}
 use Rattle.sheet.specs.Data.{Part, Rule}

@@ -7,10 +7,10 @@ use mathlib.Core.List.{List, []}
 use native.Mathlib.Omega.{arith}
 use borrow.Author.Tests.{eqb-true, eq-eqb}
 use lib.Bits.{bitAnd}
+use Rattle.facts.specs.Truth.{same-test, and-left, and-right, and-both}
 use Rattle.facts.specs.Bits.{bit, has}
 use Rattle.facts.specs.Laws.{has-and, has-beyond}
 use Rattle.facts.specs.Sets.{same-bit, same-set, le-or-lt}
-use Rattle.atl.proofs.Bounded.{and-left, and-right, and-both, same-test}
 use Rattle.sheet.specs.Data.{Part, Rule, Sheet}
 use Rattle.sheet.specs.Fields.{Fits, ruleFits}
 use Rattle.sheet.specs.declared.question.Question.{Question}

@@ -8,7 +8,7 @@ use native.Mathlib.Nat.{mul-zero, eq-zero-or-pos, mod-lt, div-add-mod', mul-le-m
 use native.Mathlib.Omega.{arith}
 use lib.Dec.{eqb}
 use borrow.Author.Tests.{eq-eqb, eqb-true}
-use Rattle.atl.proofs.Bounded.{and-left, and-right, and-both, same-test, or-cases}
+use Rattle.facts.specs.Truth.{same-test, and-left, and-right, and-both, or-cases}
 use Rattle.meaning.specs.Radix.{product, digit, alike}
 use Rattle.radix.specs.Classes.{rep}
 

@@ -1,4 +1,3 @@
--- The laws of padded tables, of places, and of clearing.
+-- The laws of padded tables and of clearing.
 pub mod Pad
-pub mod Place
 pub mod Clear

@@ -1,4 +1,3 @@
 -- The definitions that the contracts of `tables` cite.
 pub mod Lengths
 pub mod Pad
-pub mod Place

@@ -6,7 +6,7 @@ use lib.ListN.{length-replicate}
 use Rattle.codes.proofs.Fits.{fits-sound}
 use Rattle.position.specs.Position.{rulesOf}
 use Rattle.model.specs.Views.{viewsOf}
-use Rattle.model.proofs.Beginning.{zeros, first, first-chained}
+use Rattle.model.proofs.Beginning.{zeros, first, first-treed}
 use Rattle.model.proofs.Exploring.{accepted, refused-all, staged-sizes}
 use borrow.Author.Needs.{needs}
 use Rattle.model.proofs.build.Statement.{statement}
@@ -18,15 +18,6 @@ initial-requires c κs = search needs
 reset-requires : tie.Need-reset-requires
 reset-requires c κs = search needs
 
-slice-aggregate-enroll : tie.Need-slice-aggregate-enroll
-slice-aggregate-enroll c = search needs
-
-slice-aggregate-enroll-2 : tie.Need-slice-aggregate-enroll-2
-slice-aggregate-enroll-2 c = search needs
-
-enroll-requires : tie.Need-enroll-requires
-enroll-requires c κs = search needs
-
 slice-aggregate-compile : tie.Need-slice-aggregate-compile
 slice-aggregate-compile c = search needs
 
@@ -35,7 +26,7 @@ slice-aggregate-compile-2 c = search needs
 
 compile-requires : tie.Need-compile-requires
 compile-requires c κs =
-    let start = c .before .before .before .before .before .before .before .before .before .before .before .before .before .before .before .before .before .before .before .before .before .before .before .before .before .before .before .before .before .before in
+    let start = c .before .before .before .before .before .before .before .before .before .before .before .before .before .before .before .before .before .before .before .before .before .before .before .before .before in
     (start .pre .0 .within, fits-sound (sheetIn (start .args .s .now) (start .args .y)) (start .pre .0 .fits), start .pre .0 .fits .few-rules, start .pre .1 .masks-are, record { code-long = length-replicate {A = ℕ} 3072 0; ends-long = length-replicate {A = ℕ} 67 0 })
 
 slice-aggregate-explore : tie.Need-slice-aggregate-explore
@@ -55,11 +46,11 @@ slice-aggregate-explore-5 c = search needs
 
 explore-requires : tie.Need-explore-requires
 explore-requires c κs =
-    let at-enroll = c .before .before .before .before .before .before .before .before .before .before .before .before .before .before .before .before .before in
-    let at-reset = at-enroll .before .before .before .before .before .before .before .before .before .before .before .before .before in
+    let at-compile = c .before .before .before .before .before .before .before .before .before .before .before .before in
+    let at-reset = at-compile .before .before .before .before .before .before .before .before .before .before .before .before .before in
     let at-initial = at-reset .before .before .before .before .before .before in
     let start = at-initial .before .before .before .before .before .before .before in
-    (start .pre .0, start .pre .1, first (rulesOf (sheetIn (start .args .s .now) (start .args .y))) (viewsOf (sheetIn (start .args .s .now) (start .args .y))) (at-reset .reset .ensures) (at-initial .initial .ensures) (omega arith), first-chained (at-reset .reset .ensures) (omega arith) _ _ (at-enroll .enroll .ensures .0) (at-enroll .enroll .ensures .1), record { compiled = c .before .before .before .before .before .before .before .before .before .before .before .before .compile .ensures .0; sized = c .before .before .before .before .before .before .before .before .before .before .before .before .compile .ensures .1 .0 }, omega (arith, length-replicate {A = ℕ} 512 0))
+    (start .pre .0, start .pre .1, first (rulesOf (sheetIn (start .args .s .now) (start .args .y))) (viewsOf (sheetIn (start .args .s .now) (start .args .y))) (at-reset .reset .ensures) (at-initial .initial .ensures) (omega arith), first-treed (at-reset .reset .ensures) (omega arith), record { compiled = at-compile .compile .ensures .0; sized = at-compile .compile .ensures .1 .0 }, omega (arith, length-replicate {A = ℕ} 512 0))
 
 enum-known-built : tie.Need-enum-known-built
 enum-known-built c = search needs
@@ -67,46 +58,45 @@ enum-known-built c = search needs
 reset-requires-2 : tie.Need-reset-requires-2
 reset-requires-2 c κs =
     let at-explore = c .before .before .before .before .before .before .before .before .before .before .before .before .before .before .before .before .before .before .before .before .before in
-    let at-reset = at-explore .before .before .before .before .before .before .before .before .before .before .before .before .before .before .before .before .before .before .before .before .before .before .before .before .before .before .before .before .before .before .before in
+    let at-reset = at-explore .before .before .before .before .before .before .before .before .before .before .before .before .before .before .before .before .before .before .before .before .before .before .before .before .before .before in
     let at-initial = at-reset .before .before .before .before .before .before in
     let start = at-initial .before .before .before .before .before .before .before in
     let sizes = staged-sizes (first (rulesOf (sheetIn (start .args .s .now) (start .args .y))) (viewsOf (sheetIn (start .args .s .now) (start .args .y))) (at-reset .reset .ensures) (at-initial .initial .ensures) (omega arith)) in
-    let kept = at-explore .explore .kept in
-    record { states-long = omega (arith, kept .1 .1 .1 .1 .1 .1 .0, sizes .states-long); starts-long = omega (arith, kept .1 .1 .1 .1 .1 .1 .1 .1 .1 .0, sizes .starts-long); successors-long = omega (arith, kept .1 .1 .1 .1 .1 .1 .1 .1 .1 .1 .0, sizes .successors-long); counts-long = omega (arith, kept .1 .1 .1 .1 .1 .1 .1 .1 .1 .1 .1 .0, sizes .counts-long); views-long = omega (arith, kept .1 .1 .1 .1 .1 .1 .1 .1 .1 .1 .1 .1 .0, sizes .views-long) }
+    record { states-long = omega (arith, at-explore .explore .kept .1 .1 .1 .1 .1 .1 .0, sizes .states-long); starts-long = omega (arith, at-explore .explore .kept .1 .1 .1 .1 .1 .1 .1 .1 .1 .0, sizes .starts-long); successors-long = omega (arith, at-explore .explore .kept .1 .1 .1 .1 .1 .1 .1 .1 .1 .1 .0, sizes .successors-long); counts-long = omega (arith, at-explore .explore .kept .1 .1 .1 .1 .1 .1 .1 .1 .1 .1 .1 .0, sizes .counts-long); views-long = omega (arith, at-explore .explore .kept .1 .1 .1 .1 .1 .1 .1 .1 .1 .1 .1 .1 .0, sizes .views-long) }
 
 same-length : tie.Need-same-length
 same-length c =
     let at-reset2 = c .before .before .before .before .before .before .before .before .before .before in
     let at-explore = at-reset2 .before .before .before .before .before .before .before .before .before .before .before .before .before .before .before .before .before .before .before .before .before .before in
-    let at-reset = at-explore .before .before .before .before .before .before .before .before .before .before .before .before .before .before .before .before .before .before .before .before .before .before .before .before .before .before .before .before .before .before .before in
+    let at-reset = at-explore .before .before .before .before .before .before .before .before .before .before .before .before .before .before .before .before .before .before .before .before .before .before .before .before .before .before in
     omega (arith, at-reset2 .reset2 .kept .1 .0, at-explore .explore .kept .1 .1 .1 .1 .1 .1 .0, at-reset .reset .kept .1 .0)
 
 same-length-2 : tie.Need-same-length-2
 same-length-2 c =
     let at-reset2 = c .before .before .before .before .before .before .before .before .before .before in
     let at-explore = at-reset2 .before .before .before .before .before .before .before .before .before .before .before .before .before .before .before .before .before .before .before .before .before .before in
-    let at-reset = at-explore .before .before .before .before .before .before .before .before .before .before .before .before .before .before .before .before .before .before .before .before .before .before .before .before .before .before .before .before .before .before .before in
+    let at-reset = at-explore .before .before .before .before .before .before .before .before .before .before .before .before .before .before .before .before .before .before .before .before .before .before .before .before .before .before in
     omega (arith, at-reset2 .reset2 .kept .1 .1 .0, at-explore .explore .kept .1 .1 .1 .1 .1 .1 .1 .1 .1 .0, at-reset .reset .kept .1 .1 .0)
 
 same-length-3 : tie.Need-same-length-3
 same-length-3 c =
     let at-reset2 = c .before .before .before .before .before .before .before .before .before .before in
     let at-explore = at-reset2 .before .before .before .before .before .before .before .before .before .before .before .before .before .before .before .before .before .before .before .before .before .before in
-    let at-reset = at-explore .before .before .before .before .before .before .before .before .before .before .before .before .before .before .before .before .before .before .before .before .before .before .before .before .before .before .before .before .before .before .before in
+    let at-reset = at-explore .before .before .before .before .before .before .before .before .before .before .before .before .before .before .before .before .before .before .before .before .before .before .before .before .before .before in
     omega (arith, at-reset2 .reset2 .kept .1 .1 .1 .0, at-explore .explore .kept .1 .1 .1 .1 .1 .1 .1 .1 .1 .1 .0, at-reset .reset .kept .1 .1 .1 .0)
 
 same-length-4 : tie.Need-same-length-4
 same-length-4 c =
     let at-reset2 = c .before .before .before .before .before .before .before .before .before .before in
     let at-explore = at-reset2 .before .before .before .before .before .before .before .before .before .before .before .before .before .before .before .before .before .before .before .before .before .before in
-    let at-reset = at-explore .before .before .before .before .before .before .before .before .before .before .before .before .before .before .before .before .before .before .before .before .before .before .before .before .before .before .before .before .before .before .before in
+    let at-reset = at-explore .before .before .before .before .before .before .before .before .before .before .before .before .before .before .before .before .before .before .before .before .before .before .before .before .before .before in
     omega (arith, at-reset2 .reset2 .kept .1 .1 .1 .1 .0, at-explore .explore .kept .1 .1 .1 .1 .1 .1 .1 .1 .1 .1 .1 .0, at-reset .reset .kept .1 .1 .1 .1 .0)
 
 same-length-5 : tie.Need-same-length-5
 same-length-5 c =
     let at-reset2 = c .before .before .before .before .before .before .before .before .before .before in
     let at-explore = at-reset2 .before .before .before .before .before .before .before .before .before .before .before .before .before .before .before .before .before .before .before .before .before .before in
-    let at-reset = at-explore .before .before .before .before .before .before .before .before .before .before .before .before .before .before .before .before .before .before .before .before .before .before .before .before .before .before .before .before .before .before .before in
+    let at-reset = at-explore .before .before .before .before .before .before .before .before .before .before .before .before .before .before .before .before .before .before .before .before .before .before .before .before .before .before in
     omega (arith, at-reset2 .reset2 .kept .1 .1 .1 .1 .1 .0, at-explore .explore .kept .1 .1 .1 .1 .1 .1 .1 .1 .1 .1 .1 .1 .0, at-reset .reset .kept .1 .1 .1 .1 .1 .0)
 
 returns : tie.Need-returns
@@ -122,31 +112,31 @@ enum-told c = search needs
 same-length-6 : tie.Need-same-length-6
 same-length-6 c =
     let at-explore = c .before .before .before .before .before .before .before .before .before .before .before .before .before .before .before in
-    let at-reset = at-explore .before .before .before .before .before .before .before .before .before .before .before .before .before .before .before .before .before .before .before .before .before .before .before .before .before .before .before .before .before .before .before in
+    let at-reset = at-explore .before .before .before .before .before .before .before .before .before .before .before .before .before .before .before .before .before .before .before .before .before .before .before .before .before .before in
     omega (arith, at-explore .explore .kept .1 .1 .1 .1 .1 .1 .0, at-reset .reset .kept .1 .0)
 
 same-length-7 : tie.Need-same-length-7
 same-length-7 c =
     let at-explore = c .before .before .before .before .before .before .before .before .before .before .before .before .before .before .before in
-    let at-reset = at-explore .before .before .before .before .before .before .before .before .before .before .before .before .before .before .before .before .before .before .before .before .before .before .before .before .before .before .before .before .before .before .before in
+    let at-reset = at-explore .before .before .before .before .before .before .before .before .before .before .before .before .before .before .before .before .before .before .before .before .before .before .before .before .before .before in
     omega (arith, at-explore .explore .kept .1 .1 .1 .1 .1 .1 .1 .1 .1 .0, at-reset .reset .kept .1 .1 .0)
 
 same-length-8 : tie.Need-same-length-8
 same-length-8 c =
     let at-explore = c .before .before .before .before .before .before .before .before .before .before .before .before .before .before .before in
-    let at-reset = at-explore .before .before .before .before .before .before .before .before .before .before .before .before .before .before .before .before .before .before .before .before .before .before .before .before .before .before .before .before .before .before .before in
+    let at-reset = at-explore .before .before .before .before .before .before .before .before .before .before .before .before .before .before .before .before .before .before .before .before .before .before .before .before .before .before in
     omega (arith, at-explore .explore .kept .1 .1 .1 .1 .1 .1 .1 .1 .1 .1 .0, at-reset .reset .kept .1 .1 .1 .0)
 
 same-length-9 : tie.Need-same-length-9
 same-length-9 c =
     let at-explore = c .before .before .before .before .before .before .before .before .before .before .before .before .before .before .before in
-    let at-reset = at-explore .before .before .before .before .before .before .before .before .before .before .before .before .before .before .before .before .before .before .before .before .before .before .before .before .before .before .before .before .before .before .before in
+    let at-reset = at-explore .before .before .before .before .before .before .before .before .before .before .before .before .before .before .before .before .before .before .before .before .before .before .before .before .before .before in
     omega (arith, at-explore .explore .kept .1 .1 .1 .1 .1 .1 .1 .1 .1 .1 .1 .0, at-reset .reset .kept .1 .1 .1 .1 .0)
 
 same-length-10 : tie.Need-same-length-10
 same-length-10 c =
     let at-explore = c .before .before .before .before .before .before .before .before .before .before .before .before .before .before .before in
-    let at-reset = at-explore .before .before .before .before .before .before .before .before .before .before .before .before .before .before .before .before .before .before .before .before .before .before .before .before .before .before .before .before .before .before .before in
+    let at-reset = at-explore .before .before .before .before .before .before .before .before .before .before .before .before .before .before .before .before .before .before .before .before .before .before .before .before .before .before in
     omega (arith, at-explore .explore .kept .1 .1 .1 .1 .1 .1 .1 .1 .1 .1 .1 .1 .0, at-reset .reset .kept .1 .1 .1 .1 .1 .0)
 
 returns-2 : tie.Need-returns-2
@@ -160,9 +150,6 @@ build-spec =
     (tie.spec
     initial-requires
     reset-requires
-    slice-aggregate-enroll
-    slice-aggregate-enroll-2
-    enroll-requires
     slice-aggregate-compile
     slice-aggregate-compile-2
     compile-requires

@@ -8,7 +8,7 @@ use Rattle.sheet.specs.Limits.{mostRules}
 use Rattle.sheet.specs.Reading.{sheetIn}
 use Rattle.position.specs.Position.{rulesOf}
 use Rattle.tables.specs.Lengths.{stateLimit, moveLimit}
-use Rattle.lookup.specs.Chains.{Chained}
+use Rattle.lookup.specs.Tree.{Treed}
 use Rattle.model.specs.Views.{viewsOf}
 use Rattle.model.specs.Tables.{Stage}
 use Rattle.model.proofs.Expanding.{done}
@@ -17,10 +17,10 @@ use Rattle.model.proofs.explore.Statement.{statement}
 use Rattle.model.proofs.explore.Tie as tie
 
 abbrev Inv-loop : tie.InvT-loop
-Inv-loop s y masks code ends moves states₀ slots₀ links₀ starts₀ successors₀ counts₀ views₀ live₀ n₀ at₀ k₀ states slots links starts successors counts views live n at k = Stage (rulesOf (sheetIn s y)) (viewsOf (sheetIn s y)) stateLimit moveLimit k states n starts successors at counts views × Chained states n slots links × (mostRules ≤ length live) × (length live ≡ length live₀)
+Inv-loop s y masks code ends moves states₀ tests₀ forks₀ starts₀ successors₀ counts₀ views₀ live₀ n₀ at₀ k₀ states tests forks starts successors counts views live n at k = Stage (rulesOf (sheetIn s y)) (viewsOf (sheetIn s y)) stateLimit moveLimit k states n starts successors at counts views × Treed states n tests forks × (mostRules ≤ length live) × (length live ≡ length live₀)
 
 abbrev μ-loop : tie.MeasureT-loop
-μ-loop s y masks code ends moves states₀ slots₀ links₀ starts₀ successors₀ counts₀ views₀ live₀ n₀ at₀ k₀ states slots links starts successors counts views live n at k = stateLimit - k
+μ-loop s y masks code ends moves states₀ tests₀ forks₀ starts₀ successors₀ counts₀ views₀ live₀ n₀ at₀ k₀ states tests forks starts successors counts views live n at k = stateLimit - k
 
 loop-holds : tie.Need-loop-holds Inv-loop μ-loop
 loop-holds c =
@@ -52,14 +52,14 @@ same-length-2 c =
     let at-expand = c .before .before .before .before .before .before .before .before .before .before .before .before .before .before .before .before .before .before .before in
     let head = at-expand .before .before .before .before .before .before .before .before .before .before in
     let start = head .before .before .before .before .before .before .before .before .before .before .before .before in
-    omega (arith, at-expand .expand .kept .1 .1 .1 .1 .1 .1 .1 .1 .0, head .loop .inv .1 .slots-long, start .pre .3 .slots-long)
+    omega (arith, at-expand .expand .kept .1 .1 .1 .1 .1 .1 .1 .1 .0, head .loop .inv .1 .forked .tests-long, start .pre .3 .forked .tests-long)
 
 same-length-3 : tie.Need-same-length-3 Inv-loop μ-loop
 same-length-3 c =
     let at-expand = c .before .before .before .before .before .before .before .before .before .before .before .before .before .before .before .before .before .before .before in
     let head = at-expand .before .before .before .before .before .before .before .before .before .before in
     let start = head .before .before .before .before .before .before .before .before .before .before .before .before in
-    omega (arith, at-expand .expand .kept .1 .1 .1 .1 .1 .1 .1 .1 .1 .0, head .loop .inv .1 .links-long, start .pre .3 .links-long)
+    omega (arith, at-expand .expand .kept .1 .1 .1 .1 .1 .1 .1 .1 .1 .0, head .loop .inv .1 .forked .forks-long, start .pre .3 .forked .forks-long)
 
 same-length-4 : tie.Need-same-length-4 Inv-loop μ-loop
 same-length-4 c =
@@ -126,13 +126,13 @@ same-length-10 : tie.Need-same-length-10 Inv-loop μ-loop
 same-length-10 c =
     let head = c .before in
     let start = head .before .before .before .before .before .before .before .before .before .before .before .before in
-    omega (arith, head .loop .inv .1 .slots-long, start .pre .3 .slots-long)
+    omega (arith, head .loop .inv .1 .forked .tests-long, start .pre .3 .forked .tests-long)
 
 same-length-11 : tie.Need-same-length-11 Inv-loop μ-loop
 same-length-11 c =
     let head = c .before in
     let start = head .before .before .before .before .before .before .before .before .before .before .before .before in
-    omega (arith, head .loop .inv .1 .links-long, start .pre .3 .links-long)
+    omega (arith, head .loop .inv .1 .forked .forks-long, start .pre .3 .forked .forks-long)
 
 same-length-12 : tie.Need-same-length-12 Inv-loop μ-loop
 same-length-12 c =

@@ -13,10 +13,10 @@ use Rattle.model.proofs.list_targets.Statement.{statement}
 use Rattle.model.proofs.list_targets.Tie as tie
 
 abbrev Inv-loop : tie.InvT-loop
-Inv-loop s y o code live lives m states₀ slots₀ links₀ n successors₀ at count₀ j₀ states slots links successors count j = (j ≤ m) × Going stateLimit moveLimit (take n states₀) (take at successors₀) (tabulate m (targetOf (sheetIn s y) o)) j states slots links count successors (at + j)
+Inv-loop s y o code live lives m states₀ tests₀ forks₀ n successors₀ at count₀ j₀ states tests forks successors count j = (j ≤ m) × Going stateLimit moveLimit (take n states₀) (take at successors₀) (tabulate m (targetOf (sheetIn s y) o)) j states tests forks count successors (at + j)
 
 abbrev μ-loop : tie.MeasureT-loop
-μ-loop s y o code live lives m states₀ slots₀ links₀ n successors₀ at count₀ j₀ states slots links successors count j = m - j
+μ-loop s y o code live lives m states₀ tests₀ forks₀ n successors₀ at count₀ j₀ states tests forks successors count j = m - j
 
 loop-holds : tie.Need-loop-holds Inv-loop μ-loop
 loop-holds c =
@@ -31,7 +31,7 @@ target-of-requires c κs =
 enter-requires : tie.Need-enter-requires Inv-loop μ-loop
 enter-requires c κs =
     let going = c .before .before .before .before .before .loop .inv .1 in
-    (holds-clean (going .states-hold), going .chained)
+    (holds-clean (going .states-hold), going .treed)
 
 enum-known-slot : tie.Need-enum-known-slot Inv-loop μ-loop
 enum-known-slot c = search needs
@@ -72,14 +72,14 @@ same-length-2 c =
     let at-enter = c .before .before .before .before .before .before .before .before in
     let head = at-enter .before .before .before .before .before .before in
     let start = head .before .before .before .before .before .before .before .before in
-    omega (arith, at-enter .enter .kept .1 .0, head .loop .inv .1 .chained .slots-long, start .pre .3 .slots-long)
+    omega (arith, at-enter .enter .kept .1 .0, head .loop .inv .1 .treed .forked .tests-long, start .pre .3 .forked .tests-long)
 
 same-length-3 : tie.Need-same-length-3 Inv-loop μ-loop
 same-length-3 c =
     let at-enter = c .before .before .before .before .before .before .before .before in
     let head = at-enter .before .before .before .before .before .before in
     let start = head .before .before .before .before .before .before .before .before in
-    omega (arith, at-enter .enter .kept .1 .1 .0, head .loop .inv .1 .chained .links-long, start .pre .3 .links-long)
+    omega (arith, at-enter .enter .kept .1 .1 .0, head .loop .inv .1 .treed .forked .forks-long, start .pre .3 .forked .forks-long)
 
 same-length-4 : tie.Need-same-length-4 Inv-loop μ-loop
 same-length-4 c =
@@ -120,13 +120,13 @@ same-length-6 : tie.Need-same-length-6 Inv-loop μ-loop
 same-length-6 c =
     let head = c .before in
     let start = head .before .before .before .before .before .before .before .before in
-    omega (arith, head .loop .inv .1 .chained .slots-long, start .pre .3 .slots-long)
+    omega (arith, head .loop .inv .1 .treed .forked .tests-long, start .pre .3 .forked .tests-long)
 
 same-length-7 : tie.Need-same-length-7 Inv-loop μ-loop
 same-length-7 c =
     let head = c .before in
     let start = head .before .before .before .before .before .before .before .before in
-    omega (arith, head .loop .inv .1 .chained .links-long, start .pre .3 .links-long)
+    omega (arith, head .loop .inv .1 .treed .forked .forks-long, start .pre .3 .forked .forks-long)
 
 same-length-8 : tie.Need-same-length-8 Inv-loop μ-loop
 same-length-8 c =
