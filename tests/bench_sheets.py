@@ -66,7 +66,8 @@ def one_wide_state(width, chain):
 def fan(width, bits):
     """State 0 has many joint moves, which lead into a counter at half of its
     places; so its successors have as many different round counts.  Every
-    coalition is asked, so that the marking outweighs the building."""
+    coalition is asked, so that the marking outweighs the building.  Rules that
+    never fire bring each sheet to 200 rules: only the game grows."""
     started = bits
     rules = [ru(NEXT, started), ru(NEXT, 0, 0, (NOT_TRUE, started))] + [r for r in counter_rules(bits, played=False) if r[:3] != b"RU\x02"]
     for i in range(bits):
@@ -81,6 +82,7 @@ def fan(width, bits):
                 rules += [ru(NEXT, place, 0, (NOT_TRUE, started), (DOES, role, m)) for m in range(moves) if m >> b & 1]
                 place += 1
     rules.append(ru(TERMINAL, 0, 0, (IS_VIEW, bits)))
+    rules += [ru(NEXT, 0, 0, (TRUE, started), (NOT_TRUE, started))] * (200 - len(rules))
     joint = width[0] * width[1] * width[2]
     nodes = [fo(N_TERMINAL), fo(N_NOT, 0)]
     for mask in range(8):
