@@ -104,6 +104,19 @@ def one_remainder(digits):
     return join([sz(3, 64, 0, 2), *rules, *nodes, ED]), 2 ** digits, 8 * 2 ** digits
 
 
+def many_rules(width, rules_wanted):
+    """Two states of many joint moves, and many NEXT rules that hang on the
+    moves of one, two or three roles."""
+    rng = random.Random(rules_wanted)
+    rules = [ru(LEGAL, role, m) for role in range(3) for m in range(width[role])]
+    rules += [x for role in range(3) for x in name_moves(role, range(width[role]))]
+    while len(rules) < rules_wanted:
+        roles = rng.sample(range(3), rng.randrange(1, 4))
+        rules.append(ru(NEXT, 0, 0, *[(DOES, role, rng.randrange(width[role])) for role in sorted(roles)]))
+    nodes = [fo(N_FACT, 0), fo(N_EVENTUALLY, 0, 0, 1)]
+    return join([sz(3, 1, 0, 16), *rules, *nodes, ED]), 2, 2 * width[0] * width[1] * width[2]
+
+
 def nested(nodes_wanted):
     """Questions inside questions over 1,024 states and 8,192 joint moves."""
     sheet, states, joint = many_joint(10)
@@ -157,6 +170,8 @@ def families():
         yield ("fan", width[0] * width[1] * width[2]) + fan(width, bits)
     for digits in (7, 8, 9, 10):
         yield ("one-remainder", 8 * 2 ** digits) + one_remainder(digits)
+    for width in ((8, 8, 8), (16, 8, 8), (16, 16, 8), (16, 16, 16)):
+        yield ("many-rules", 2 * width[0] * width[1] * width[2]) + many_rules(width, 512)
 
 
 def write_all(directory):

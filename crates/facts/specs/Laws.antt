@@ -8,7 +8,7 @@ use native.Mathlib.Numerals.{one-add}
 use native.Mathlib.Omega.{arith}
 use lib.Dec.{eqb, eqb·zero-suc, eqb·suc-zero, eqb·suc-suc}
 use lib.Pow.{pow-pos, pow-mono, pow-lt, shr-shr}
-use lib.Bits.{bitAnd, bitOr, or-shr, and-shr, or-step, and-step, or-add-and, and-high, or-lt}
+use lib.Bits.{bitAnd, bitOr, bitXor, differ, or-shr, and-shr, xor-shr, or-step, and-step, xor-step, or-add-and, and-high, or-lt}
 use Rattle.facts.specs.Bits.{bit, has, insert, indic}
 
 or-odd : (a b : ℕ) → bitOr a b % 2 ≡ max (a % 2) (b % 2)
@@ -16,6 +16,20 @@ or-odd a b = ap (λ (x : ℕ). x % 2) (or-step a b) ∙ omega arith
 
 and-odd : (a b : ℕ) → bitAnd a b % 2 ≡ min (a % 2) (b % 2)
 and-odd a b = ap (λ (x : ℕ). x % 2) (and-step a b) ∙ omega arith
+
+-- two digits differ by 0 or 1
+differ-le : (a b : ℕ) → a ≤ 1 → b ≤ 1 → differ a b ≤ 1
+differ-le zero b h k = k
+differ-le (suc a) zero h k = h
+differ-le (suc a) (suc b) h k = differ-le a b (omega arith) (omega arith)
+
+xor-odd : (a b : ℕ) → bitXor a b % 2 ≡ differ (a % 2) (b % 2)
+xor-odd a b =
+    let small = differ-le (a % 2) (b % 2) (omega arith) (omega arith) in
+    ap (λ (x : ℕ). x % 2) (xor-step a b) ∙ omega arith
+
+pub bit-xor : (a b i : ℕ) → bit (bitXor a b) i ≡ differ (bit a i) (bit b i)
+bit-xor a b i = ap (λ (x : ℕ). x % 2) (xor-shr a b i) ∙ xor-odd (a / 2 ^ i) (b / 2 ^ i)
 
 pub bit-or : (a b i : ℕ) → bit (bitOr a b) i ≡ max (bit a i) (bit b i)
 bit-or a b i = ap (λ (x : ℕ). x % 2) (or-shr a b i) ∙ or-odd (a / 2 ^ i) (b / 2 ^ i)

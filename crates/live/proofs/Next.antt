@@ -106,7 +106,7 @@ module _ {code : List ℕ} {facts views to : ℕ} {before live : List ℕ} {r : 
   found-below j h =
       omega (arith, getD-take r live j 0 h, ap (λ (l : List ℕ). getD l j 0) found-take, alive-below code facts views to j (subst (λ (n : ℕ). j < n) (f .count) h))
 
-  -- What `find_live` leaves is what `next_by` asks for.
+  -- What `find_live` leaves is what `spread` asks for.
   pub found-ready : Slots code 0 to → to ≤ length before → Ready code live r
   found-ready s h = record {
     room = omega (arith, found-room code facts views f, found-length code facts views f h);
@@ -114,7 +114,7 @@ module _ {code : List ℕ} {facts views to : ℕ} {before live : List ℕ} {r : 
     members = λ j l. s .members (getD live j 0) (omega arith) (found-below j l);
   }
 
--- What `next_by` gives after `find_live` is the successor.
+-- What the slots that `find_live` leaves give is the successor.
 pub found-next : {rs : List Rule} {code : List ℕ} {to : ℕ} {before live : List ℕ} {r : ℕ} → AllSound rs → Encoded Next rs code 0 to
     → (k : Look) → Found code (k .facts .bits) (k .views .bits) to before live r → nextBy code (jointOf (k .moves)) (take r live) ≡ nextFacts rs k
 found-next {code = code} s e k f = ap (nextBy code (jointOf (k .moves))) (found-take f) ∙ next-live s e k

@@ -1,12 +1,15 @@
 -- The slots whose facts and views hold in a state, and what they give for a joint move.
-use Prim.Native.Nat.{ℕ, zero, suc, _+_, _*_, _≤_, _<_}
+use Prim.Native.Nat.{ℕ, zero, suc, _+_, _*_, _^_, _≤_, _<_}
 use mathlib.Core.Path.{_≡_}
 use mathlib.Core.Bool.{Bool, cond}
 use mathlib.Core.List.{List, [], _∷_, _++_}
+use lib.Bits.{bitAnd, bitOr, bitXor}
+use lib.Dec.{eqb}
 use lib.ListN.{getD, length, drop, set}
 use Rattle.facts.specs.Bits.{insert}
+use Rattle.sheet.specs.Limits.{mostMoves}
 use Rattle.rules.specs.Rules.{over}
-use Rattle.codes.specs.Codes.{bits, calm, stirs}
+use Rattle.codes.specs.Codes.{bits, calm, stirs, madeBy}
 use Rattle.codes.specs.Table.{width, setsIn, memberIn}
 
 -- The slots below c whose sets are calm, ascending.
@@ -21,6 +24,35 @@ stirred code joint c x = cond (stirs (setsIn code c) joint) (insert x (memberIn 
 -- What the slots of a list give for a joint move.
 unfoldable pub nextBy : List ℕ → (joint : ℕ) → List ℕ → ℕ
 nextBy code joint l = over (stirred code joint) l 0
+
+-- The table has, at the number of each move of a role, what the slots of a list give where the role makes that move and the others make those in `outer`.
+abbrev pub Spread : List ℕ → List ℕ → (role outer : ℕ) → List ℕ → Type 0
+Spread code slots role outer by = (m : ℕ) → m < mostMoves → getD by m 0 ≡ nextBy code (madeBy role m outer) slots
+
+-- ---- how such a table is found
+-- The moves of d that are not in `outer`.
+unfoldable pub missing : ℕ → ℕ → ℕ
+missing d outer = bitXor d (bitAnd d outer)
+
+-- No move of the table has a member.
+abbrev pub Wiped : List ℕ → Type 0
+Wiped by = (m : ℕ) → m < mostMoves → getD by m 0 ≡ 0
+
+-- r is the role's move that alone makes up `rest`, and none of the sixteen where there is no such move.
+abbrev pub Alone : (rest role r : ℕ) → Type 0
+Alone rest role r = (m : ℕ) → m < mostMoves → eqb r m ≡ eqb rest (2 ^ (mostMoves * role + m))
+
+-- A slot more: for each move of the role, the table and the base r together have what the slot makes of the two before.
+abbrev pub Strewn : List ℕ → (c role outer base : ℕ) → (before after : List ℕ) → ℕ → Type 0
+Strewn code c role outer base before after r = (m : ℕ) → m < mostMoves → bitOr (getD after m 0) r ≡ stirred code (madeBy role m outer) c (bitOr (getD before m 0) base)
+
+-- What the slots of a list give, in two parts: at each move what comes with that move, and in the base what comes with all.
+abbrev pub Parted : List ℕ → List ℕ → (role outer base : ℕ) → List ℕ → Type 0
+Parted code slots role outer base by = (m : ℕ) → m < mostMoves → bitOr (getD by m 0) base ≡ nextBy code (madeBy role m outer) slots
+
+-- Each move of the table, with the base.
+abbrev pub Joined : (base : ℕ) → (before after : List ℕ) → Type 0
+Joined base before after = (m : ℕ) → m < mostMoves → getD after m 0 ≡ bitOr (getD before m 0) base
 
 -- An entry more, where the test holds.
 pub record Kept (on : Bool) (count c : ℕ) (before after : List ℕ) (r : ℕ) : Type 0 where

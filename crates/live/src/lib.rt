@@ -1,12 +1,12 @@
-// Successors by live rules: which NEXT rules have their facts and views is found once a state, and each joint move looks at their moves alone.
+// Successors by live rules: which NEXT rules have their facts and views is found once a state, and what they give is found for all moves of one role at once.
 ghost use mathlib.Core.Path.{_≡_};
 ghost use Prim.Native.Nat.{_+_, _*_, _≤_, _<_};
 ghost use lib.ListN.{length, take};
+ghost use lib.Count.{trailingZeros};
 ghost use Rattle.codes.specs.Codes.{bits, madeBy, jointOf};
-ghost use Rattle.codes.specs.Table.{width, memberIn};
-ghost use Rattle.live.specs.Live.{stirred, nextBy, Kept, Found, Ready};
+ghost use Rattle.codes.specs.Table.{width, word, memberIn};
+ghost use Rattle.live.specs.Live.{missing, Wiped, Alone, Strewn, Parted, Joined, Spread, Kept, Found, Ready};
 use firing::calm_at;
-use firing::stirs_at;
 use firing::with_member;
 
 // The length of a table of live slots: no more than a sheet has rules.
@@ -75,29 +75,103 @@ pub fn find_live(code: &[u64], to: usize, facts: u64, views: u64, live: &mut [u1
     count
 }
 
-// x, with the member of slot c where its moves are made.
-pub fn step(code: &[u64], c: usize, joint: u64, x: u64) -> u64
-    requires { ⌜ width * (c + 1) ≤ length (now code) ⌝ }
-    requires { ⌜ memberIn (now code) c < bits ⌝ }
-    ensures { λ r. ⌜ r ≡ stirred (now (code .entry)) joint c x ⌝ }
+// ---- all moves of one role at once
+
+// A table of sixteen sets, none of which has a member.
+fn wipe(by: &mut [u64])
+    requires { ⌜ length (now by) ≡ 16 ⌝ }
+    ensures { λ _. ⌜ Wiped (now (by .exit)) ⌝ }
 {
-    if stirs_at(code, c, joint) {
-        return with_member(x, code[6 * c + 5]);
+    let mut m: usize = 0;
+    while m < 16 {
+        by[m] = 0;
+        m += 1;
     }
-    x
 }
 
-// The facts that the live slots give for a joint move.
-pub fn next_by(code: &[u64], live: &[u16], count: usize, joint: u64) -> u64
-    requires { ⌜ Ready (now code) (now live) count ⌝ }
-    ensures { λ r. ⌜ r ≡ nextBy (now (code .entry)) joint (take count (now (live .entry))) ⌝ }
+// The moves of slot c that the other roles do not make.
+fn missing_at(code: &[u64], c: usize, outer: u64) -> u64
+    requires { ⌜ width * (c + 1) ≤ length (now code) ⌝ }
+    ensures { λ r. ⌜ r ≡ missing (word (now (code .entry)) c 4) outer ⌝ }
 {
-    let mut x: u64 = 0;
+    let d = code[6 * c + 4];
+    d ^ (d & outer)
+}
+
+// The number of digits below the lowest one that is set.
+fn lowest(x: u64) -> u64
+    ensures { λ r. ⌜ r ≡ trailingZeros 64 x ⌝ }
+{
+    u64::trailing_zeros(x) as u64
+}
+
+// The move of the role that alone makes up `rest`, and 16 where there is no such move.
+fn alone(rest: u64, role: u64) -> usize
+    requires { ⌜ role < 4 ⌝ }
+    ensures { λ r. ⌜ Alone rest role r ⌝ }
+{
+    let k = lowest(rest);
+    let first = 16 * role;
+    if first <= k {
+        if k < first + 16 {
+            if rest == 1u64 << k {
+                return (k - first) as usize;
+            }
+        }
+    }
+    16
+}
+
+// The table, with the member of slot c at the one move that the slot still waits for; and `base`, with its member where it waits for none.
+fn strew(code: &[u64], c: usize, role: u64, outer: u64, base: u64, by: &mut [u64]) -> u64
+    requires { ⌜ (width * (c + 1) ≤ length (now code)) × (memberIn (now code) c < bits) × (role < 4) × (length (now by) ≡ 16) ⌝ }
+    ensures { λ r. ⌜ Strewn (now (code .entry)) c role outer base (now (by .entry)) (now (by .exit)) r ⌝ }
+{
+    let rest = missing_at(code, c, outer);
+    let f = code[6 * c + 5];
+    if rest == 0 {
+        return with_member(base, f);
+    }
+    let m = alone(rest, role);
+    if m < 16 {
+        by[m] = with_member(by[m], f);
+    }
+    base
+}
+
+// The live slots strewn over the table; the answer is the base, the facts that come whatever the role does.
+fn strew_all(code: &[u64], live: &[u16], count: usize, role: u64, outer: u64, by: &mut [u64]) -> u64
+    requires { ⌜ Ready (now code) (now live) count × (role < 4) × (length (now by) ≡ 16) × Wiped (now by) ⌝ }
+    ensures { λ r. ⌜ Parted (now (code .entry)) (take count (now (live .entry))) role outer r (now (by .exit)) ⌝ }
+{
+    let mut base: u64 = 0;
     let mut i: usize = 0;
     while i < count {
         let c = slot_of(live[i]);
-        x = step(code, c, joint, x);
+        base = strew(code, c, role, outer, base, by);
         i += 1;
     }
-    x
+    base
+}
+
+// Each of the sixteen sets with the base.
+fn join(base: u64, by: &mut [u64])
+    requires { ⌜ length (now by) ≡ 16 ⌝ }
+    ensures { λ _. ⌜ Joined base (now (by .entry)) (now (by .exit)) ⌝ }
+{
+    let mut m: usize = 0;
+    while m < 16 {
+        by[m] = by[m] | base;
+        m += 1;
+    }
+}
+
+// What the live slots give for each move of one role, where the other roles make the moves in `outer`.
+pub fn spread(code: &[u64], live: &[u16], count: usize, role: u64, outer: u64, by: &mut [u64])
+    requires { ⌜ Ready (now code) (now live) count × (role < 4) × (length (now by) ≡ 16) ⌝ }
+    ensures { λ _. ⌜ Spread (now (code .entry)) (take count (now (live .entry))) role outer (now (by .exit)) ⌝ }
+{
+    wipe(by);
+    let base = strew_all(code, live, count, role, outer, by);
+    join(base, by);
 }

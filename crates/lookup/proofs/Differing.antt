@@ -3,18 +3,13 @@ use Prim.Native.Nat.{ℕ, zero, suc, _/_, _%_, _^_, _≤_, _<_}
 use mathlib.Core.Path.{_≡_, refl, sym, ap, _∙_}
 use native.Mathlib.Nat.{le-of-suc-le-suc}
 use native.Mathlib.Omega.{arith}
-use lib.Bits.{differ, bitXor, xor-step, xor-shr}
+use lib.Bits.{differ, bitXor}
 use lib.Count.{under, trailingZeros, trailing-le}
 use Rattle.facts.specs.Bits.{bit}
-use Rattle.facts.specs.Laws.{bit-zero, bit-suc, ext}
+use Rattle.facts.specs.Laws.{bit-zero, bit-suc, bit-xor, ext}
 use Rattle.lookup.specs.Tree.{factLimit, FirstDifference}
 
 -- two digits differ by 0 exactly where they are the same
-differ-lt : (a b : ℕ) → a ≤ 1 → b ≤ 1 → differ a b ≤ 1
-differ-lt zero b h k = k
-differ-lt (suc a) zero h k = h
-differ-lt (suc a) (suc b) h k = differ-lt a b (omega arith) (omega arith)
-
 differ-same : (a b : ℕ) → differ a b ≡ 0 → a ≡ b
 differ-same zero b e = sym e
 differ-same (suc a) zero e = e
@@ -23,14 +18,6 @@ differ-same (suc a) (suc b) e = ap suc (differ-same a b e)
 same-differ : (a : ℕ) → differ a a ≡ 0
 same-differ zero = refl
 same-differ (suc a) = same-differ a
-
-xor-odd : (a b : ℕ) → bitXor a b % 2 ≡ differ (a % 2) (b % 2)
-xor-odd a b =
-    let small = differ-lt (a % 2) (b % 2) (omega arith) (omega arith) in
-    ap (λ (x : ℕ). x % 2) (xor-step a b) ∙ omega arith
-
-bit-xor : (a b i : ℕ) → bit (bitXor a b) i ≡ differ (bit a i) (bit b i)
-bit-xor a b i = ap (λ (x : ℕ). x % 2) (xor-shr a b i) ∙ xor-odd (a / 2 ^ i) (b / 2 ^ i)
 
 -- the zeros of a word are few
 pub trailing-small : (n : ℕ) → trailingZeros factLimit n < 2 ^ 8

@@ -5,7 +5,7 @@ ghost use Prim.Native.Nat.{_+_, _*_, _≤_, _<_};
 ghost use lib.ListN.{length, take};
 ghost use Rattle.tables.specs.Lengths.{stateLimit, moveLimit};
 ghost use Rattle.atl.specs.Bounded.{tabulate};
-ghost use Rattle.sheet.specs.Limits.{mostRules};
+ghost use Rattle.sheet.specs.Limits.{mostMoves, mostRules};
 ghost use Rattle.sheet.specs.Reading.{sheetIn};
 ghost use Rattle.position.specs.Position.{rulesOf};
 ghost use Rattle.offer.specs.Offer.{roleLimit, Whole, Studied, Coded, Lives, jointsOf, roleOf, targetOf};
@@ -22,11 +22,12 @@ use lookup::enroll;
 use lookup::seek;
 use offer::Offer;
 use offer::initial;
+use offer::inner_role;
 use offer::joint_count;
 use offer::live_at;
 use offer::offer_at;
+use offer::reach;
 use offer::role_count;
-use offer::target_of;
 use sheet::Layout;
 use tables::MOVE_LIMIT;
 use tables::STATE_LIMIT;
@@ -99,17 +100,23 @@ fn list_targets(
     n: usize,
     successors: &mut [u16],
     at: usize,
+    by: &mut [u64],
 ) -> Listing
     requires { ⌜ Whole (now s) y × (m ≡ jointsOf o (y .sizes .roles)) × Clean stateLimit (now states) n × Treed (now states) n (now tests) (now forks)
-        × Clean moveLimit (now successors) at × (at + m ≤ moveLimit) × Lives (sheetIn (now s) y) o (now code) (now live) lives ⌝ }
+        × Clean moveLimit (now successors) at × (at + m ≤ moveLimit) × Lives (sheetIn (now s) y) o (now code) (now live) lives × (length (now by) ≡ mostMoves) ⌝ }
     ensures { λ r. ⌜ Listed stateLimit moveLimit (take n (now (states .entry))) (take at (now (successors .entry))) (tabulate m (targetOf (sheetIn (now (s .entry)) y) o))
         r (now (states .exit)) (now (tests .exit)) (now (forks .exit)) (now (successors .exit)) (at + m) ⌝ }
 {
+    let inner = inner_role(o, y);
+    let mut outer: u64 = 0;
+    let mut known = false;
     let mut count = n;
     let mut j: usize = 0;
     while j < m {
-        let t = target_of(s, y, o, code, live, lives, j);
-        let slot = enter(states, tests, forks, count, t);
+        let r = reach(s, y, o, code, live, lives, j, inner, outer, known, by);
+        outer = r.outer;
+        known = r.known;
+        let slot = enter(states, tests, forks, count, r.to);
         match slot {
             Slot::At(i, more) => {
                 successors[at + j] = i as u16;
@@ -164,11 +171,12 @@ fn expand(
     counts: &mut [u16],
     views: &mut [u64],
     live: &mut [u16],
+    by: &mut [u64],
 ) -> Step
     requires { ⌜ Whole (now s) y × Studied (sheetIn (now s) y) (now masks) moves × (k < n)
         × Stage (rulesOf (sheetIn (now s) y)) (viewsOf (sheetIn (now s) y)) stateLimit moveLimit k (now states) n (now starts) (now successors) at (now counts) (now views)
         × Treed (now states) n (now tests) (now forks)
-        × Coded (sheetIn (now s) y) (now masks) (now code) (now ends) × (mostRules ≤ length (now live)) ⌝ }
+        × Coded (sheetIn (now s) y) (now masks) (now code) (now ends) × (mostRules ≤ length (now live)) × (length (now by) ≡ mostMoves) ⌝ }
     ensures { λ r. ⌜ Expanded (rulesOf (sheetIn (now (s .entry)) y)) (viewsOf (sheetIn (now (s .entry)) y)) stateLimit moveLimit k r
         (now (states .exit)) (now (tests .exit)) (now (forks .exit)) (now (starts .exit)) (now (successors .exit)) (now (counts .exit)) (now (views .exit)) ⌝ }
 {
@@ -200,6 +208,7 @@ fn expand(
         n,
         successors,
         at,
+        by,
     );
     match listing {
         Listing::Done(more) => Step::Next(more, total),
@@ -223,11 +232,12 @@ fn explore(
     counts: &mut [u16],
     views: &mut [u64],
     live: &mut [u16],
+    by: &mut [u64],
 ) -> Built
     requires { ⌜ Whole (now s) y × Studied (sheetIn (now s) y) (now masks) moves
         × Stage (rulesOf (sheetIn (now s) y)) (viewsOf (sheetIn (now s) y)) stateLimit moveLimit 0 (now states) 1 (now starts) (now successors) 0 (now counts) (now views)
         × Treed (now states) 1 (now tests) (now forks)
-        × Coded (sheetIn (now s) y) (now masks) (now code) (now ends) × (mostRules ≤ length (now live)) ⌝ }
+        × Coded (sheetIn (now s) y) (now masks) (now code) (now ends) × (mostRules ≤ length (now live)) × (length (now by) ≡ mostMoves) ⌝ }
     ensures { λ r. ⌜ Explored (rulesOf (sheetIn (now (s .entry)) y)) (viewsOf (sheetIn (now (s .entry)) y)) stateLimit moveLimit r
         (now (states .exit)) (now (starts .exit)) (now (successors .exit)) (now (counts .exit)) (now (views .exit)) ⌝ }
 {
@@ -253,6 +263,7 @@ fn explore(
             counts,
             views,
             live,
+            by,
         );
         match step {
             Step::Next(more, total) => {
@@ -313,6 +324,7 @@ pub fn build(
     let mut ends = [0u16; ENDS_ROOM];
     compile(s, y.top, y.rules, masks, &mut code, &mut ends);
     let mut live = [0u16; LIVE_ROOM];
+    let mut by = [0u64; 16];
     let built = explore(
         s,
         y,
@@ -328,6 +340,7 @@ pub fn build(
         counts,
         views,
         &mut live,
+        &mut by,
     );
     if let Built::Refused(f) = built {
         reset(0, states, starts, successors, counts, views);

@@ -1,7 +1,7 @@
 -- What a position of a sheet's game offers, computed: how many joint moves, how many for each role, and where each leads.
-use Prim.Native.Nat.{ℕ, _≤_}
+use Prim.Native.Nat.{ℕ, zero, suc, _≤_}
 use mathlib.Core.Path.{_≡_}
-use mathlib.Core.Bool.{cond}
+use mathlib.Core.Bool.{Bool, true, cond}
 use mathlib.Core.List.{List}
 use lib.Dec.{ltb}
 use lib.ListN.{length, getD, take}
@@ -14,7 +14,7 @@ use Rattle.choices.specs.Moves.{members, total, decode, four}
 use Rattle.rules.specs.Rules.{nextFacts}
 use Rattle.codes.specs.Codes.{jointOf}
 use Rattle.codes.specs.Table.{Compiled, Sized}
-use Rattle.live.specs.Live.{nextBy, Ready}
+use Rattle.live.specs.Live.{nextBy, Spread, Ready}
 use Rattle.position.specs.Position.{still, lookIn, movesOf, offers, making, leads}
 use Rattle.offer.specs.declared.Offer.{Offer}
 
@@ -57,3 +57,12 @@ roleOf o roles role = cond (ltb role roles) (length (members (getD (o .choices .
 -- Where joint move j leads.
 unfoldable pub targetOf : Sheet → Offer → ℕ → ℕ
 targetOf d o j = leads (d .rules) (o .look) (o .choices .terminal) (four (decode (take (d .sizes .roles) (o .choices .sets)) j))
+
+-- The last of the first roles that has several choices, or role 0: from one joint move to the next mostly its move alone changes.
+unfoldable pub innerOf : List ℕ → ℕ → ℕ
+innerOf sets zero = 0
+innerOf sets (suc r) = cond (ltb 1 (length (members (getD sets r 0)))) r (innerOf sets r)
+
+-- Where it is known, the table has the successors for each move of the inner role, the others making those in `outer`.
+abbrev pub KnownFor : Bool → List ℕ → List ℕ → (inner outer : ℕ) → List ℕ → Type 0
+KnownFor known code slots inner outer by = known ≡ true → Spread code slots inner outer by

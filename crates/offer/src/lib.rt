@@ -1,13 +1,14 @@
 // What a position offers, found once: its views and choices; and from these its joint moves by number and their targets.
 ghost use mathlib.Core.Path.{_≡_};
 ghost use Prim.Native.Nat.{_*_, _<_, _≤_};
-ghost use lib.ListN.{length, getD};
+ghost use lib.ListN.{length, getD, take, set};
 ghost use Rattle.sheet.specs.Reading.{sheetIn};
 ghost use Rattle.position.specs.Position.{rulesOf};
-ghost use Rattle.sheet.specs.Limits.{mostRules};
+ghost use Rattle.sheet.specs.Limits.{mostMoves, mostRules};
+ghost use Rattle.codes.specs.Codes.{jointOf};
 ghost use Rattle.codes.specs.Table.{width};
-ghost use Rattle.live.specs.Live.{Found};
-ghost use Rattle.offer.specs.Offer.{roleLimit, Whole, Studied, Coded, Lives, offerOf, jointsOf, roleOf, targetOf};
+ghost use Rattle.live.specs.Live.{Spread, Found, Ready};
+ghost use Rattle.offer.specs.Offer.{roleLimit, Whole, Studied, Coded, Lives, offerOf, jointsOf, roleOf, targetOf, innerOf, KnownFor};
 use choices::Choices;
 use choices::count;
 use choices::joint_move;
@@ -18,7 +19,8 @@ use firing::end_at;
 use firing::views_by;
 use live::find_live;
 use live::joint_of;
-use live::next_by;
+use live::slot_of;
+use live::spread;
 use position::choices_from;
 use rules::Look;
 use rules::init_facts;
@@ -30,6 +32,16 @@ pub struct Offer {
     pub look: Look,
     pub choices: Choices,
 }
+
+// Where a joint move leads; and, where `known`, the moves of the other roles for which the table of successors was made.
+pub struct Reached {
+    pub to: u64,
+    pub outer: u64,
+    pub known: bool,
+}
+
+// No move: none of the sixteen.
+const NO_MOVE: u16 = 16;
 
 // The initial position of the sheet's game.
 pub fn initial(s: &[u8], y: Layout) -> u64
@@ -107,8 +119,60 @@ pub fn role_count(o: Offer, y: Layout, role: usize) -> u16
     1
 }
 
-// Where joint move j leads, by the live rules: at the end of a game, nowhere else.
-pub fn target_of(
+// The last role that has several choices, or role 0: from one joint move to the next mostly its move alone changes.
+pub fn inner_role(o: Offer, y: Layout) -> usize
+    requires { ⌜ y .sizes .roles ≤ roleLimit ⌝ }
+    ensures { λ r. ⌜ r ≡ innerOf (o .choices .sets) (y .sizes .roles) ⌝ }
+{
+    let z = y.sizes;
+    let roles = wide(z.roles);
+    let choices = o.choices;
+    let sets = choices.sets;
+    let mut inner: usize = 0;
+    let mut r: usize = 0;
+    while r < roles {
+        if 1 < count(sets[r]) {
+            inner = r;
+        }
+        r += 1;
+    }
+    inner
+}
+
+// The moves of all roles but the inner one, as a set.
+pub fn others_of(m: [u16; 4], inner: usize) -> u64
+    requires { ⌜ inner < roleLimit ⌝ }
+    ensures { λ r. ⌜ r ≡ jointOf (set m inner mostMoves) ⌝ }
+{
+    let mut others = m;
+    others[inner] = NO_MOVE;
+    joint_of(others)
+}
+
+// The table has the successors for the moves of the other roles: it is filled anew unless it has them.
+pub fn renew(
+    code: &[u64],
+    live: &[u16],
+    count: usize,
+    inner: usize,
+    others: u64,
+    outer: u64,
+    known: bool,
+    by: &mut [u64],
+)
+    requires { ⌜ Ready (now code) (now live) count × (inner < roleLimit) × (length (now by) ≡ mostMoves) × KnownFor known (now code) (take count (now live)) inner outer (now by) ⌝ }
+    ensures { λ _. ⌜ Spread (now (code .entry)) (take count (now (live .entry))) inner others (now (by .exit)) ⌝ }
+{
+    if known {
+        if others == outer {
+            return;
+        }
+    }
+    spread(code, live, count, inner as u64, others, by);
+}
+
+// Where joint move j leads, by the live rules: at the end of a game, nowhere else. The table keeps the successors for each move of the inner role.
+pub fn reach(
     s: &[u8],
     y: Layout,
     o: Offer,
@@ -116,9 +180,15 @@ pub fn target_of(
     live: &[u16],
     count: usize,
     j: usize,
-) -> u64
-    requires { ⌜ Whole (now s) y × (j < jointsOf o (y .sizes .roles)) × Lives (sheetIn (now s) y) o (now code) (now live) count ⌝ }
-    ensures { λ r. ⌜ r ≡ targetOf (sheetIn (now (s .entry)) y) o j ⌝ }
+    inner: usize,
+    outer: u64,
+    known: bool,
+    by: &mut [u64],
+) -> Reached
+    requires { ⌜ Whole (now s) y × (j < jointsOf o (y .sizes .roles)) × Lives (sheetIn (now s) y) o (now code) (now live) count
+        × (inner < roleLimit) × (length (now by) ≡ mostMoves) × KnownFor known (now code) (take count (now live)) inner outer (now by) ⌝ }
+    ensures { λ r. ⌜ (r .to ≡ targetOf (sheetIn (now (s .entry)) y) o j)
+        × KnownFor (r .known) (now (code .entry)) (take count (now (live .entry))) inner (r .outer) (now (by .exit)) ⌝ }
 {
     let z = y.sizes;
     let roles = wide(z.roles);
@@ -126,8 +196,16 @@ pub fn target_of(
     let choices = o.choices;
     let sets = choices.sets;
     if choices.terminal {
-        return look.facts.number();
+        let to = look.facts.number();
+        return Reached { to, outer, known };
     }
     let m = joint_move(sets, roles, j as u32);
-    next_by(code, live, count, joint_of(m))
+    let others = others_of(m, inner);
+    renew(code, live, count, inner, others, outer, known, by);
+    let own = slot_of(m[inner]);
+    Reached {
+        to: by[own],
+        outer: others,
+        known: true,
+    }
 }
