@@ -106,7 +106,8 @@ def one_remainder(digits):
 
 def many_rules(width, rules_wanted):
     """Two states of many joint moves, and many NEXT rules that hang on the
-    moves of one, two or three roles."""
+    moves of one, two or three roles.  All sizes have the same number of
+    rules: only the game grows."""
     rng = random.Random(rules_wanted)
     rules = [ru(LEGAL, role, m) for role in range(3) for m in range(width[role])]
     rules += [x for role in range(3) for x in name_moves(role, range(width[role]))]
