@@ -66,8 +66,8 @@ def one_wide_state(width, chain):
 def fan(width, bits):
     """State 0 has many joint moves, which lead into a counter at half of its
     places; so its successors have as many different round counts.  Every
-    coalition is asked, so that the marking outweighs the building.  Rules that
-    never fire bring each sheet to 200 rules: only the game grows."""
+    coalition is asked, so that the marking outweighs the building.  The rules
+    grow with the game."""
     started = bits
     rules = [ru(NEXT, started), ru(NEXT, 0, 0, (NOT_TRUE, started))] + [r for r in counter_rules(bits, played=False) if r[:3] != b"RU\x02"]
     for i in range(bits):
@@ -82,7 +82,6 @@ def fan(width, bits):
                 rules += [ru(NEXT, place, 0, (NOT_TRUE, started), (DOES, role, m)) for m in range(moves) if m >> b & 1]
                 place += 1
     rules.append(ru(TERMINAL, 0, 0, (IS_VIEW, bits)))
-    rules += [ru(NEXT, 0, 0, (TRUE, started), (NOT_TRUE, started))] * (200 - len(rules))
     joint = width[0] * width[1] * width[2]
     nodes = [fo(N_TERMINAL), fo(N_NOT, 0)]
     for mask in range(8):
@@ -106,8 +105,7 @@ def one_remainder(digits):
 
 def many_rules(width, rules_wanted):
     """Two states of many joint moves, and many NEXT rules that hang on the
-    moves of one, two or three roles.  All sizes have the same number of
-    rules: only the game grows."""
+    moves of one, two or three roles.  Rules and joint moves grow together."""
     rng = random.Random(rules_wanted)
     rules = [ru(LEGAL, role, m) for role in range(3) for m in range(width[role])]
     rules += [x for role in range(3) for x in name_moves(role, range(width[role]))]
@@ -171,8 +169,8 @@ def families():
         yield ("fan", width[0] * width[1] * width[2]) + fan(width, bits)
     for digits in (7, 8, 9, 10):
         yield ("one-remainder", 8 * 2 ** digits) + one_remainder(digits)
-    for width in ((8, 8, 8), (16, 8, 8), (16, 16, 8), (16, 16, 16)):
-        yield ("many-rules", 2 * width[0] * width[1] * width[2]) + many_rules(width, 512)
+    for width, rules in (((8, 8, 8), 64), ((16, 8, 8), 128), ((16, 16, 8), 256), ((16, 16, 16), 512)):
+        yield ("many-rules", 2 * width[0] * width[1] * width[2]) + many_rules(width, rules)
 
 
 def write_all(directory):
