@@ -86,6 +86,29 @@ module _ (code : List ℕ) (joint c x : ℕ) where
   unfolding stirred
   step-no t e h = ap (λ (b : Bool). cond b (insert x (memberIn code c)) x) (sym h ∙ e)
 
+-- ---- a table that begins with a list
+module _ (l before : List ℕ) {r : ℕ} {live : List ℕ} (e : r ≡ length l) (t : live ≡ l ++ drop r before) where
+  -- The table keeps its length.
+  pub table-length : r ≤ length before → length live ≡ length before
+  table-length h = ap length t ∙ length-append l (drop r before) ∙ omega (arith, length-drop r before)
+
+  -- One entry more where the test holds.
+  pub table-on : {c d : ℕ} {next : List ℕ} (on : Bool) → r < length before → Kept on r c live next d
+      → (d ≡ length (l ++ cond on (c ∷ []) [])) × (next ≡ l ++ cond on (c ∷ []) [] ++ drop d before)
+  table-on {c} {d} true h k = (
+    k .count-is ∙ omega (arith, length-append l (c ∷ [])),
+    k .table
+        ∙ ap (λ (m : List ℕ). set m r c) (t ∙ ap (λ (m : List ℕ). l ++ m) (drop-cons before r 0 h))
+        ∙ set-at l (getD before r 0) (drop (suc r) before) c r (sym e)
+        ∙ sym (append-snoc l c (drop (suc r) before))
+        ∙ ap (λ (i : ℕ). (l ++ (c ∷ [])) ++ drop i before) (sym (k .count-is ∙ add-one r)),
+  )
+  table-on {c} {d} false h k =
+      let same : l ≡ l ++ [] = sym (append-nil l) in (
+        k .count-is ∙ e ∙ ap length same,
+        k .table ∙ t ∙ ap (λ (m : List ℕ). m ++ drop r before) same ∙ ap (λ (i : ℕ). (l ++ []) ++ drop i before) (sym (k .count-is)),
+      )
+
 -- ---- the loop that finds the live slots
 module _ (code : List ℕ) (facts views : ℕ) where
   -- One slot more.
@@ -118,10 +141,7 @@ module _ (code : List ℕ) (facts views : ℕ) where
 
     -- The table keeps its length.
     pub found-length : c ≤ length before → length live ≡ length before
-    found-length h =
-        ap length (f .table)
-        ∙ length-append (alive code facts views c) (drop r before)
-        ∙ omega (arith, f .count, alive-few c, length-drop r before)
+    found-length h = table-length (alive code facts views c) before (f .count) (f .table) (omega (arith, found-room))
 
     -- The end.
     pub found-end : {to : ℕ} → c ≤ to → to ≤ c → Found code facts views to before live r
@@ -130,26 +150,10 @@ module _ (code : List ℕ) (facts views : ℕ) where
     -- The next turn.
     pub found-on : {next : List ℕ} {d : ℕ} (on : Bool) → c < length before → on ≡ calm (setsIn code c) facts views → Kept on r c live next d
         → Found code facts views (c + 1) before next d
-    found-on {next} {d} true h e k = record {
-      count = k .count-is ∙ omega (arith, f .count, length-append (alive code facts views c) (c ∷ [])) ∙ ap length (sym (alive-suc c true e));
-      table =
-          k .table
-          ∙ ap (λ (l : List ℕ). set l r c) (f .table ∙ ap (λ (l : List ℕ). alive code facts views c ++ l) (drop-cons before r 0 (omega (arith, found-room))))
-          ∙ set-at (alive code facts views c) (getD before r 0) (drop (suc r) before) c r (sym (f .count))
-          ∙ sym (append-snoc (alive code facts views c) c (drop (suc r) before))
-          ∙ ap (λ (i : ℕ). (alive code facts views c ++ (c ∷ [])) ++ drop i before) (sym (k .count-is ∙ add-one r))
-          ∙ ap (λ (l : List ℕ). l ++ drop d before) (sym (alive-suc c true e));
-    }
-    found-on {next} {d} false h e k =
-        let same : alive code facts views c ≡ alive code facts views (c + 1) = sym (alive-suc c false e ∙ append-nil (alive code facts views c)) in
-        record {
-          count = k .count-is ∙ f .count ∙ ap length same;
-          table =
-              k .table
-              ∙ f .table
-              ∙ ap (λ (l : List ℕ). l ++ drop r before) same
-              ∙ ap (λ (i : ℕ). alive code facts views (c + 1) ++ drop i before) (sym (k .count-is));
-        }
+    found-on {next} {d} on h e k =
+        let (n, t) = table-on (alive code facts views c) before (f .count) (f .table) on (omega (arith, found-room)) k in
+        let more = sym (alive-suc c on e) in
+        record { count = n ∙ ap length more; table = t ∙ ap (λ (l : List ℕ). l ++ drop d before) more }
 
 -- ---- the loop over the live slots
 -- Over two lists, one after the other.

@@ -5,8 +5,9 @@ use mathlib.Core.Bool.{Bool, cond}
 use mathlib.Core.List.{List, [], _∷_, _++_}
 use lib.Bits.{bitAnd, bitOr, bitXor}
 use lib.Dec.{eqb}
-use lib.ListN.{getD, length, drop, set}
+use lib.ListN.{getD, length, take, drop, set}
 use Rattle.facts.specs.Bits.{insert}
+use Rattle.facts.specs.Sets.{_⊆_}
 use Rattle.sheet.specs.Limits.{mostMoves}
 use Rattle.rules.specs.Rules.{over}
 use Rattle.codes.specs.Codes.{bits, calm, stirs, madeBy}
@@ -69,3 +70,18 @@ pub record Ready (code live : List ℕ) (n : ℕ) : Type 0 where
   pub room : n ≤ length live
   pub inside : (j : ℕ) → j < n → width * (getD live j 0 + 1) ≤ length code
   pub members : (j : ℕ) → j < n → memberIn code (getD live j 0) < bits
+
+-- The slots of a list whose moves are all in the set `scope`, in their order.
+unfoldable pub nearOf : List ℕ → (scope : ℕ) → List ℕ → List ℕ
+nearOf code scope [] = []
+nearOf code scope (c ∷ l) = cond (stirs (setsIn code c) scope) (c ∷ nearOf code scope l) (nearOf code scope l)
+
+-- The first r entries are those, the rest is as before.
+pub record Narrowed (code slots : List ℕ) (scope : ℕ) (before after : List ℕ) (r : ℕ) : Type 0 where
+  pub count : r ≡ length (nearOf code scope slots)
+  pub table : after ≡ nearOf code scope slots ++ drop r before
+
+-- For each joint move within `scope` the first n entries give what the slots of a list give.
+pub record Serves (code slots : List ℕ) (scope : ℕ) (near : List ℕ) (n : ℕ) : Type 0 where
+  pub ready : Ready code near n
+  pub same : (joint : ℕ) → joint ⊆ scope → nextBy code joint (take n near) ≡ nextBy code joint slots

@@ -5,8 +5,9 @@ ghost use lib.ListN.{length, take};
 ghost use lib.Count.{trailingZeros};
 ghost use Rattle.codes.specs.Codes.{bits, madeBy, jointOf};
 ghost use Rattle.codes.specs.Table.{width, word, memberIn};
-ghost use Rattle.live.specs.Live.{missing, Wiped, Alone, Strewn, Parted, Joined, Spread, Kept, Found, Ready};
+ghost use Rattle.live.specs.Live.{missing, Wiped, Alone, Strewn, Parted, Joined, Spread, Kept, Found, Ready, Narrowed};
 use firing::calm_at;
+use firing::stirs_at;
 use firing::with_member;
 
 // The length of a table of live slots: no more than a sheet has rules.
@@ -73,6 +74,22 @@ pub fn find_live(code: &[u64], to: usize, facts: u64, views: u64, live: &mut [u1
         c += 1;
     }
     count
+}
+
+// The live slots that a joint move within `scope` can fire, and how many there are.
+pub fn narrow(code: &[u64], live: &[u16], count: usize, scope: u64, near: &mut [u16]) -> usize
+    requires { ⌜ Ready (now code) (now live) count × (count ≤ length (now near)) ⌝ }
+    ensures { λ r. ⌜ Narrowed (now (code .entry)) (take count (now (live .entry))) scope (now (near .entry)) (now (near .exit)) r ⌝ }
+{
+    let mut kept: usize = 0;
+    let mut at: usize = 0;
+    while at < count {
+        let c = slot_of(live[at]);
+        let on = stirs_at(code, c, scope);
+        kept = keep(near, kept, c, on);
+        at += 1;
+    }
+    kept
 }
 
 // ---- all moves of one role at once

@@ -21,6 +21,7 @@ use lookup::LINK_LIMIT;
 use lookup::enroll;
 use lookup::seek;
 use offer::Offer;
+use offer::free_moves;
 use offer::initial;
 use offer::inner_role;
 use offer::joint_count;
@@ -100,22 +101,42 @@ fn list_targets(
     n: usize,
     successors: &mut [u16],
     at: usize,
+    near: &mut [u16],
     by: &mut [u64],
 ) -> Listing
     requires { ⌜ Whole (now s) y × (m ≡ jointsOf o (y .sizes .roles)) × Clean stateLimit (now states) n × Treed (now states) n (now tests) (now forks)
-        × Clean moveLimit (now successors) at × (at + m ≤ moveLimit) × Lives (sheetIn (now s) y) o (now code) (now live) lives × (length (now by) ≡ mostMoves) ⌝ }
+        × Clean moveLimit (now successors) at × (at + m ≤ moveLimit) × Lives (sheetIn (now s) y) o (now code) (now live) lives
+        × (length (now live) ≤ length (now near)) × (length (now by) ≡ mostMoves) ⌝ }
     ensures { λ r. ⌜ Listed stateLimit moveLimit (take n (now (states .entry))) (take at (now (successors .entry))) (tabulate m (targetOf (sheetIn (now (s .entry)) y) o))
         r (now (states .exit)) (now (tests .exit)) (now (forks .exit)) (now (successors .exit)) (at + m) ⌝ }
 {
     let inner = inner_role(o, y);
+    let free = free_moves(o, inner);
     let mut outer: u64 = 0;
     let mut known = false;
+    let mut kept: usize = 0;
     let mut count = n;
     let mut j: usize = 0;
     while j < m {
-        let r = reach(s, y, o, code, live, lives, j, inner, outer, known, by);
+        let r = reach(
+            s,
+            y,
+            o,
+            code,
+            live,
+            lives,
+            j,
+            inner,
+            free,
+            outer,
+            known,
+            kept,
+            near,
+            by,
+        );
         outer = r.outer;
         known = r.known;
+        kept = r.kept;
         let slot = enter(states, tests, forks, count, r.to);
         match slot {
             Slot::At(i, more) => {
@@ -171,12 +192,13 @@ fn expand(
     counts: &mut [u16],
     views: &mut [u64],
     live: &mut [u16],
+    near: &mut [u16],
     by: &mut [u64],
 ) -> Step
     requires { ⌜ Whole (now s) y × Studied (sheetIn (now s) y) (now masks) moves × (k < n)
         × Stage (rulesOf (sheetIn (now s) y)) (viewsOf (sheetIn (now s) y)) stateLimit moveLimit k (now states) n (now starts) (now successors) at (now counts) (now views)
         × Treed (now states) n (now tests) (now forks)
-        × Coded (sheetIn (now s) y) (now masks) (now code) (now ends) × (mostRules ≤ length (now live)) × (length (now by) ≡ mostMoves) ⌝ }
+        × Coded (sheetIn (now s) y) (now masks) (now code) (now ends) × (mostRules ≤ length (now live)) × (length (now live) ≤ length (now near)) × (length (now by) ≡ mostMoves) ⌝ }
     ensures { λ r. ⌜ Expanded (rulesOf (sheetIn (now (s .entry)) y)) (viewsOf (sheetIn (now (s .entry)) y)) stateLimit moveLimit k r
         (now (states .exit)) (now (tests .exit)) (now (forks .exit)) (now (starts .exit)) (now (successors .exit)) (now (counts .exit)) (now (views .exit)) ⌝ }
 {
@@ -208,6 +230,7 @@ fn expand(
         n,
         successors,
         at,
+        near,
         by,
     );
     match listing {
@@ -232,12 +255,13 @@ fn explore(
     counts: &mut [u16],
     views: &mut [u64],
     live: &mut [u16],
+    near: &mut [u16],
     by: &mut [u64],
 ) -> Built
     requires { ⌜ Whole (now s) y × Studied (sheetIn (now s) y) (now masks) moves
         × Stage (rulesOf (sheetIn (now s) y)) (viewsOf (sheetIn (now s) y)) stateLimit moveLimit 0 (now states) 1 (now starts) (now successors) 0 (now counts) (now views)
         × Treed (now states) 1 (now tests) (now forks)
-        × Coded (sheetIn (now s) y) (now masks) (now code) (now ends) × (mostRules ≤ length (now live)) × (length (now by) ≡ mostMoves) ⌝ }
+        × Coded (sheetIn (now s) y) (now masks) (now code) (now ends) × (mostRules ≤ length (now live)) × (length (now live) ≤ length (now near)) × (length (now by) ≡ mostMoves) ⌝ }
     ensures { λ r. ⌜ Explored (rulesOf (sheetIn (now (s .entry)) y)) (viewsOf (sheetIn (now (s .entry)) y)) stateLimit moveLimit r
         (now (states .exit)) (now (starts .exit)) (now (successors .exit)) (now (counts .exit)) (now (views .exit)) ⌝ }
 {
@@ -263,6 +287,7 @@ fn explore(
             counts,
             views,
             live,
+            near,
             by,
         );
         match step {
@@ -324,6 +349,7 @@ pub fn build(
     let mut ends = [0u16; ENDS_ROOM];
     compile(s, y.top, y.rules, masks, &mut code, &mut ends);
     let mut live = [0u16; LIVE_ROOM];
+    let mut near = [0u16; LIVE_ROOM];
     let mut by = [0u64; 16];
     let built = explore(
         s,
@@ -340,6 +366,7 @@ pub fn build(
         counts,
         views,
         &mut live,
+        &mut near,
         &mut by,
     );
     if let Built::Refused(f) = built {

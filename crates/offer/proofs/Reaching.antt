@@ -1,24 +1,29 @@
 -- The role that is singled out, and the successors of a position found for all its moves at once.
-use Prim.Native.Nat.{ℕ, zero, suc, _+_, _*_, _/_, _%_, _≤_, _<_}
-use mathlib.Core.Path.{_≡_, refl, sym, ap, _∙_, subst}
+use Prim.Native.Nat.{ℕ, zero, suc, _+_, _-_, _*_, _/_, _%_, _^_, _≤_, _<_}
+use mathlib.Core.Path.{_≡_, refl, sym, ap, ap₂, _∙_, subst}
 use mathlib.Core.Bool.{Bool, true, false, cond}
 use mathlib.Core.List.{List, [], _∷_}
 use mathlib.Core.Logic.{⊎-elim}
 use native.Mathlib.Nat.{mod-lt, div-lt-iff-lt-mul, eq-zero-or-pos, mul-zero}
 use native.Mathlib.Numerals.{add-one}
 use native.Mathlib.Omega.{arith}
-use lib.Dec.{ltb}
-use lib.ListN.{length, getD, set}
-use borrow.Author.Tests.{lt-ltb, le-ltb}
-use Rattle.facts.specs.Bits.{insert}
+use lib.Bits.{bitOr}
+use lib.Dec.{eqb, ltb}
+use lib.ListN.{length, getD, take, set}
+use borrow.Author.Tests.{lt-ltb, le-ltb, eqb-true, eq-eqb, ne-eqb}
+use Rattle.facts.specs.Bits.{bit, has, insert}
 use Rattle.facts.specs.Laws.{bit-insert}
-use Rattle.facts.specs.Sets.{same-set}
+use Rattle.facts.specs.Sets.{_∈_, _⊆_, same-set, insert-cases, or-left, or-right}
+use Rattle.atl.specs.Bounded.{every<}
+use Rattle.atl.proofs.Bounded.{every-elim}
 use Rattle.meaning.proofs.Lists.{at-∈}
 use Rattle.choices.specs.Moves.{members, total, decode, four}
 use Rattle.choices.proofs.Members.{member-is}
 use Rattle.sheet.specs.Limits.{mostMoves}
 use Rattle.codes.specs.Codes.{madeBy, jointOf}
-use Rattle.offer.specs.Offer.{roleLimit, innerOf}
+use Rattle.live.specs.Live.{Spread, Serves}
+use Rattle.live.proofs.Narrowing.{spread-serves}
+use Rattle.offer.specs.Offer.{roleLimit, innerOf, allMoves, ownMoves, freeOf, Frees, Prepared}
 
 -- ---- the role that is singled out
 module _ (sets : List ℕ) where
@@ -57,6 +62,75 @@ module _ (sets : List ℕ) where
   unfolding innerOf
   inner-below zero h = omega arith
   inner-below (suc n) h = omega (arith, inner-low n)
+
+-- ---- the moves that are free
+-- All moves of all roles, and all of one, looked at one by one.
+all-has : (i : ℕ) → i < mostMoves * roleLimit → i ∈ allMoves
+all-has i h = eqb-true (bit allMoves i) 1 (every-elim (mostMoves * roleLimit) (has allMoves) refl i h)
+
+own-has : (role m : ℕ) → role < roleLimit → m < mostMoves → mostMoves * role + m ∈ ownMoves role
+unfolding ownMoves
+own-has role m h k = eqb-true (bit (ownMoves role) (mostMoves * role + m)) 1 (every-elim mostMoves (λ m. has (ownMoves role) (mostMoves * role + m)) (go role h) m k)
+  where
+    go : (role : ℕ) → role < roleLimit → every< mostMoves (λ m. has (ownMoves role) (mostMoves * role + m)) ≡ true
+    go zero h = refl
+    go (suc zero) h = refl
+    go (suc (suc zero)) h = refl
+    go (suc (suc (suc zero))) h = refl
+    go (suc (suc (suc (suc role)))) h = absurd (omega arith)
+
+-- As the code has those of a role.
+pub own-shifted : (role : ℕ) → role < roleLimit → (2 ^ mostMoves - 1) * 2 ^ (mostMoves * role) % 2 ^ 64 ≡ ownMoves role
+unfolding ownMoves
+own-shifted zero h = refl
+own-shifted (suc zero) h = refl
+own-shifted (suc (suc zero)) h = refl
+own-shifted (suc (suc (suc zero))) h = refl
+own-shifted (suc (suc (suc (suc role)))) h = absurd (omega arith)
+
+module _ (sets : List ℕ) (inner : ℕ) where
+  -- Only role 0 is before the inner role, or another one is.
+  pub free-all : {middle : ℕ} → middle ≡ innerOf sets inner → middle ≡ 0 → allMoves ≡ freeOf sets inner
+  unfolding freeOf
+  free-all e z = sym (ap (λ (t : Bool). cond t allMoves (bitOr (ownMoves inner) (ownMoves (innerOf sets inner)))) (eq-eqb (innerOf sets inner) 0 (sym e ∙ z)))
+
+  pub free-two : {middle a b : ℕ} → middle ≡ innerOf sets inner → (middle ≡ 0 → ⊥) → a ≡ ownMoves inner → b ≡ ownMoves middle → bitOr a b ≡ freeOf sets inner
+  unfolding freeOf
+  free-two {middle} e n p q =
+      ap₂ bitOr p (q ∙ ap ownMoves e)
+      ∙ sym (ap (λ (t : Bool). cond t allMoves (bitOr (ownMoves inner) (ownMoves (innerOf sets inner)))) (ne-eqb (innerOf sets inner) 0 (λ z. n (e ∙ z))))
+
+  -- The inner role may make any move.
+  pub free-has : inner < roleLimit → Frees inner (freeOf sets inner)
+  unfolding freeOf
+  free-has h m k = go (eqb (innerOf sets inner) 0)
+    where
+      go : (t : Bool) → mostMoves * inner + m ∈ cond t allMoves (bitOr (ownMoves inner) (ownMoves (innerOf sets inner)))
+      go true = all-has (mostMoves * inner + m) (omega arith)
+      go false = or-left (ownMoves inner) (ownMoves (innerOf sets inner)) (mostMoves * inner + m) (own-has inner m h k)
+
+-- Whatever it makes, nothing comes but the moves of the others and free ones.
+pub free-within : (inner free others : ℕ) → Frees inner free → (m : ℕ) → m < mostMoves → madeBy inner m others ⊆ bitOr others free
+free-within inner free others f m h i = go (ltb m mostMoves)
+  where
+    go : (t : Bool) → i ∈ cond t (insert others (mostMoves * inner + m)) others → i ∈ bitOr others free
+    go true k = ⊎-elim (or-left others free i) (λ e. or-right others free i (subst (λ (n : ℕ). n ∈ free) (sym e) (f m h))) (insert-cases others (mostMoves * inner + m) i k)
+    go false k = or-left others free i k
+
+-- ---- the tables that are kept from one joint move to the next
+module _ {code slots : List ℕ} {inner free others : ℕ} where
+  -- The others make the same moves as before.
+  pub prepared-same : {outer : ℕ} {near : List ℕ} {kept : ℕ} {by : List ℕ} → outer ≡ others → Prepared code slots inner free outer near kept by → Prepared code slots inner free others near kept by
+  prepared-same {near = near} {kept} {by} e p = subst (λ (x : ℕ). Prepared code slots inner free x near kept by) e p
+
+  -- All moves are free: no near rules are asked for.
+  pub prepared-all : (near : List ℕ) (kept : ℕ) {by : List ℕ} → free ≡ allMoves → Spread code slots inner others by → Prepared code slots inner free others near kept by
+  prepared-all near kept e f = record { table = f; serves = λ n. absurd (n e) }
+
+  -- The table is filled from the near rules.
+  pub prepared-near : {near : List ℕ} {kept : ℕ} {by : List ℕ} → Frees inner free → Serves code slots (bitOr others free) near kept → Spread code (take kept near) inner others by
+      → Prepared code slots inner free others near kept by
+  prepared-near {by = by} h v f = record { table = spread-serves inner others by v (free-within inner free others h) f; serves = λ n. v }
 
 -- ---- a role's move taken out of a joint move and put in again
 -- The order of two members that come into a set does not matter.

@@ -1,10 +1,13 @@
 -- What a position of a sheet's game offers, computed: how many joint moves, how many for each role, and where each leads.
-use Prim.Native.Nat.{ℕ, zero, suc, _≤_}
+use Prim.Native.Nat.{ℕ, zero, suc, _+_, _-_, _*_, _^_, _≤_, _<_}
 use mathlib.Core.Path.{_≡_}
 use mathlib.Core.Bool.{Bool, true, cond}
 use mathlib.Core.List.{List}
-use lib.Dec.{ltb}
+use lib.Bits.{bitOr}
+use lib.Dec.{eqb, ltb}
 use lib.ListN.{length, getD, take}
+use Rattle.facts.specs.Sets.{_∈_}
+use Rattle.sheet.specs.Limits.{mostMoves}
 use Rattle.sheet.specs.Data.{Sheet, rulesEnd}
 use Rattle.sheet.specs.Fields.{Fits}
 use Rattle.sheet.specs.Reading.{sheetIn}
@@ -14,7 +17,7 @@ use Rattle.choices.specs.Moves.{members, total, decode, four}
 use Rattle.rules.specs.Rules.{nextFacts}
 use Rattle.codes.specs.Codes.{jointOf}
 use Rattle.codes.specs.Table.{Compiled, Sized}
-use Rattle.live.specs.Live.{nextBy, Spread, Ready}
+use Rattle.live.specs.Live.{nextBy, Spread, Ready, Serves}
 use Rattle.position.specs.Position.{still, lookIn, movesOf, offers, making, leads}
 use Rattle.offer.specs.declared.Offer.{Offer}
 
@@ -58,11 +61,31 @@ roleOf o roles role = cond (ltb role roles) (length (members (getD (o .choices .
 unfoldable pub targetOf : Sheet → Offer → ℕ → ℕ
 targetOf d o j = leads (d .rules) (o .look) (o .choices .terminal) (four (decode (take (d .sizes .roles) (o .choices .sets)) j))
 
--- The last of the first roles that has several choices, or role 0: from one joint move to the next mostly its move alone changes.
+-- The last of the first roles that has several choices, or role 0. Of all roles it is the inner one: from one joint move to the next mostly its move alone changes.
 unfoldable pub innerOf : List ℕ → ℕ → ℕ
 innerOf sets zero = 0
 innerOf sets (suc r) = cond (ltb 1 (length (members (getD sets r 0)))) r (innerOf sets r)
 
--- Where it is known, the table has the successors for each move of the inner role, the others making those in `outer`.
-abbrev pub KnownFor : Bool → List ℕ → List ℕ → (inner outer : ℕ) → List ℕ → Type 0
-KnownFor known code slots inner outer by = known ≡ true → Spread code slots inner outer by
+-- All moves of all roles, and all of one role, as sets.
+abbrev pub allMoves : ℕ
+allMoves = 2 ^ (mostMoves * roleLimit) - 1
+
+unfoldable pub ownMoves : ℕ → ℕ
+ownMoves role = (2 ^ mostMoves - 1) * 2 ^ (mostMoves * role)
+
+-- The moves that may change while the near rules stay: those of the inner role and of the last one before it with several choices. All, where only role 0 is before it.
+unfoldable pub freeOf : List ℕ → ℕ → ℕ
+freeOf sets inner = cond (eqb (innerOf sets inner) 0) allMoves (bitOr (ownMoves inner) (ownMoves (innerOf sets inner)))
+
+-- The inner role may make any move.
+abbrev pub Frees : (inner free : ℕ) → Type 0
+Frees inner free = (m : ℕ) → m < mostMoves → mostMoves * inner + m ∈ free
+
+-- The table has the successors for each move of the inner role, the others making those in `outer`; and the near rules serve, where not all moves are free, as long as only free moves change.
+pub record Prepared (code slots : List ℕ) (inner free outer : ℕ) (near : List ℕ) (kept : ℕ) (by : List ℕ) : Type 0 where
+  pub table : Spread code slots inner outer by
+  pub serves : (free ≡ allMoves → ⊥) → Serves code slots (bitOr outer free) near kept
+
+-- That, where it is known.
+abbrev pub KnownFor : Bool → (code slots : List ℕ) → (inner free outer : ℕ) → (near : List ℕ) → (kept : ℕ) → (by : List ℕ) → Type 0
+KnownFor known code slots inner free outer near kept by = known ≡ true → Prepared code slots inner free outer near kept by

@@ -1,5 +1,6 @@
 // What a position offers, found once: its views and choices; and from these its joint moves by number and their targets.
 ghost use mathlib.Core.Path.{_≡_};
+ghost use mathlib.Core.Bool.{true};
 ghost use Prim.Native.Nat.{_*_, _<_, _≤_};
 ghost use lib.ListN.{length, getD, take, set};
 ghost use Rattle.sheet.specs.Reading.{sheetIn};
@@ -7,8 +8,8 @@ ghost use Rattle.position.specs.Position.{rulesOf};
 ghost use Rattle.sheet.specs.Limits.{mostMoves, mostRules};
 ghost use Rattle.codes.specs.Codes.{jointOf};
 ghost use Rattle.codes.specs.Table.{width};
-ghost use Rattle.live.specs.Live.{Spread, Found, Ready};
-ghost use Rattle.offer.specs.Offer.{roleLimit, Whole, Studied, Coded, Lives, offerOf, jointsOf, roleOf, targetOf, innerOf, KnownFor};
+ghost use Rattle.live.specs.Live.{Found, Ready, Serves};
+ghost use Rattle.offer.specs.Offer.{roleLimit, Whole, Studied, Coded, Lives, offerOf, jointsOf, roleOf, targetOf, innerOf, allMoves, ownMoves, freeOf, Frees, Prepared, KnownFor};
 use choices::Choices;
 use choices::count;
 use choices::joint_move;
@@ -19,6 +20,7 @@ use firing::end_at;
 use firing::views_by;
 use live::find_live;
 use live::joint_of;
+use live::narrow;
 use live::slot_of;
 use live::spread;
 use position::choices_from;
@@ -33,15 +35,19 @@ pub struct Offer {
     pub choices: Choices,
 }
 
-// Where a joint move leads; and, where `known`, the moves of the other roles for which the table of successors was made.
+// Where a joint move leads; and, where `known`, the moves of the other roles for which the table of successors was made, and how many near rules there are.
 pub struct Reached {
     pub to: u64,
     pub outer: u64,
     pub known: bool,
+    pub kept: usize,
 }
 
 // No move: none of the sixteen.
 const NO_MOVE: u16 = 16;
+
+// All moves of all roles.
+const ALL_MOVES: u64 = 0xffffffffffffffff;
 
 // The initial position of the sheet's game.
 pub fn initial(s: &[u8], y: Layout) -> u64
@@ -119,15 +125,11 @@ pub fn role_count(o: Offer, y: Layout, role: usize) -> u16
     1
 }
 
-// The last role that has several choices, or role 0: from one joint move to the next mostly its move alone changes.
-pub fn inner_role(o: Offer, y: Layout) -> usize
-    requires { ⌜ y .sizes .roles ≤ roleLimit ⌝ }
-    ensures { λ r. ⌜ r ≡ innerOf (o .choices .sets) (y .sizes .roles) ⌝ }
+// The last of the first `roles` roles that has several choices, or role 0.
+fn last_several(sets: [u16; 4], roles: usize) -> usize
+    requires { ⌜ roles ≤ roleLimit ⌝ }
+    ensures { λ r. ⌜ r ≡ innerOf sets roles ⌝ }
 {
-    let z = y.sizes;
-    let roles = wide(z.roles);
-    let choices = o.choices;
-    let sets = choices.sets;
     let mut inner: usize = 0;
     let mut r: usize = 0;
     while r < roles {
@@ -137,6 +139,40 @@ pub fn inner_role(o: Offer, y: Layout) -> usize
         r += 1;
     }
     inner
+}
+
+// The inner role: from one joint move to the next mostly its move alone changes.
+pub fn inner_role(o: Offer, y: Layout) -> usize
+    requires { ⌜ y .sizes .roles ≤ roleLimit ⌝ }
+    ensures { λ r. ⌜ r ≡ innerOf (o .choices .sets) (y .sizes .roles) ⌝ }
+{
+    let z = y.sizes;
+    let roles = wide(z.roles);
+    let choices = o.choices;
+    let sets = choices.sets;
+    last_several(sets, roles)
+}
+
+// All moves of a role, as a set.
+fn own_moves(role: usize) -> u64
+    requires { ⌜ role < roleLimit ⌝ }
+    ensures { λ r. ⌜ r ≡ ownMoves role ⌝ }
+{
+    0xffffu64 << (16 * role as u64)
+}
+
+// The moves that may change while the near rules stay: those of the inner role and of the last one before it with several choices. All, where only role 0 is before it.
+pub fn free_moves(o: Offer, inner: usize) -> u64
+    requires { ⌜ inner < roleLimit ⌝ }
+    ensures { λ r. ⌜ r ≡ freeOf (o .choices .sets) inner ⌝ }
+{
+    let choices = o.choices;
+    let sets = choices.sets;
+    let middle = last_several(sets, inner);
+    if middle == 0 {
+        return ALL_MOVES;
+    }
+    own_moves(inner) | own_moves(middle)
 }
 
 // The moves of all roles but the inner one, as a set.
@@ -149,29 +185,71 @@ pub fn others_of(m: [u16; 4], inner: usize) -> u64
     joint_of(others)
 }
 
-// The table has the successors for the moves of the other roles: it is filled anew unless it has them.
+// The near rules serve for the joint moves within `scope`: they are found anew unless they served for the same set before.
+fn focus(
+    code: &[u64],
+    live: &[u16],
+    count: usize,
+    scope: u64,
+    last: u64,
+    known: bool,
+    kept: usize,
+    near: &mut [u16],
+) -> usize
+    requires { ⌜ Ready (now code) (now live) count × (length (now live) ≤ length (now near))
+        × (known ≡ true → Serves (now code) (take count (now live)) last (now near) kept) ⌝ }
+    ensures { λ r. ⌜ Serves (now (code .entry)) (take count (now (live .entry))) scope (now (near .exit)) r ⌝ }
+{
+    if known {
+        if scope == last {
+            return kept;
+        }
+    }
+    narrow(code, live, count, scope, near)
+}
+
+// The table has the successors for the moves of the other roles: it is filled anew unless it has them, from the near rules where not all moves are free.
 pub fn renew(
     code: &[u64],
     live: &[u16],
     count: usize,
     inner: usize,
+    free: u64,
     others: u64,
     outer: u64,
     known: bool,
+    kept: usize,
+    near: &mut [u16],
     by: &mut [u64],
-)
-    requires { ⌜ Ready (now code) (now live) count × (inner < roleLimit) × (length (now by) ≡ mostMoves) × KnownFor known (now code) (take count (now live)) inner outer (now by) ⌝ }
-    ensures { λ _. ⌜ Spread (now (code .entry)) (take count (now (live .entry))) inner others (now (by .exit)) ⌝ }
+) -> usize
+    requires { ⌜ Ready (now code) (now live) count × (inner < roleLimit) × Frees inner free × (length (now live) ≤ length (now near)) × (length (now by) ≡ mostMoves)
+        × KnownFor known (now code) (take count (now live)) inner free outer (now near) kept (now by) ⌝ }
+    ensures { λ r. ⌜ Prepared (now (code .entry)) (take count (now (live .entry))) inner free others (now (near .exit)) r (now (by .exit)) ⌝ }
 {
     if known {
         if others == outer {
-            return;
+            return kept;
         }
     }
-    spread(code, live, count, inner as u64, others, by);
+    if free == ALL_MOVES {
+        spread(code, live, count, inner as u64, others, by);
+        return kept;
+    }
+    let more = focus(
+        code,
+        live,
+        count,
+        others | free,
+        outer | free,
+        known,
+        kept,
+        near,
+    );
+    spread(code, near, more, inner as u64, others, by);
+    more
 }
 
-// Where joint move j leads, by the live rules: at the end of a game, nowhere else. The table keeps the successors for each move of the inner role.
+// Where joint move j leads, by the live rules: at the end of a game, nowhere else. The tables keep the near rules, and the successors for each move of the inner role.
 pub fn reach(
     s: &[u8],
     y: Layout,
@@ -181,14 +259,18 @@ pub fn reach(
     count: usize,
     j: usize,
     inner: usize,
+    free: u64,
     outer: u64,
     known: bool,
+    kept: usize,
+    near: &mut [u16],
     by: &mut [u64],
 ) -> Reached
     requires { ⌜ Whole (now s) y × (j < jointsOf o (y .sizes .roles)) × Lives (sheetIn (now s) y) o (now code) (now live) count
-        × (inner < roleLimit) × (length (now by) ≡ mostMoves) × KnownFor known (now code) (take count (now live)) inner outer (now by) ⌝ }
+        × (inner < roleLimit) × Frees inner free × (length (now live) ≤ length (now near)) × (length (now by) ≡ mostMoves)
+        × KnownFor known (now code) (take count (now live)) inner free outer (now near) kept (now by) ⌝ }
     ensures { λ r. ⌜ (r .to ≡ targetOf (sheetIn (now (s .entry)) y) o j)
-        × KnownFor (r .known) (now (code .entry)) (take count (now (live .entry))) inner (r .outer) (now (by .exit)) ⌝ }
+        × KnownFor (r .known) (now (code .entry)) (take count (now (live .entry))) inner free (r .outer) (now (near .exit)) (r .kept) (now (by .exit)) ⌝ }
 {
     let z = y.sizes;
     let roles = wide(z.roles);
@@ -197,15 +279,33 @@ pub fn reach(
     let sets = choices.sets;
     if choices.terminal {
         let to = look.facts.number();
-        return Reached { to, outer, known };
+        return Reached {
+            to,
+            outer,
+            known,
+            kept,
+        };
     }
     let m = joint_move(sets, roles, j as u32);
     let others = others_of(m, inner);
-    renew(code, live, count, inner, others, outer, known, by);
+    let more = renew(
+        code,
+        live,
+        count,
+        inner,
+        free,
+        others,
+        outer,
+        known,
+        kept,
+        near,
+        by,
+    );
     let own = slot_of(m[inner]);
     Reached {
         to: by[own],
         outer: others,
         known: true,
+        kept: more,
     }
 }

@@ -1,67 +1,20 @@
--- `offer::inner_role` meets its contract: after each turn the last of the first r roles that has several choices is found.
-use borrow.Author.Needs.{needs}
-use native.Mathlib.Omega.{arith}
-use mathlib.Core.Path.{_≡_, _∙_}
-use mathlib.Core.Logic.{⊎-elim}
-use Prim.Native.Nat.{_≤_, _-_}
+-- `offer::inner_role` meets its contract: it is the last of all roles that has several choices.
+use mathlib.Core.Path.{ap, _∙_}
 use Rattle.offer.specs.Offer.{innerOf}
-use Rattle.offer.proofs.Reaching.{inner-none, inner-on, inner-same, inner-end}
+use borrow.Author.Needs.{needs}
 use Rattle.offer.proofs.inner_role.Statement.{statement}
 use Rattle.offer.proofs.inner_role.Tie as tie
 
-abbrev Inv-loop : tie.InvT-loop
-Inv-loop roles sets inner₀ r₀ inner r = (r ≤ roles) × (inner ≡ innerOf sets r)
-
-abbrev μ-loop : tie.MeasureT-loop
-μ-loop roles sets inner₀ r₀ inner r = roles - r
-
-wide-requires : tie.Need-wide-requires Inv-loop μ-loop
+wide-requires : tie.Need-wide-requires
 wide-requires c κs = search needs
 
-loop-holds : tie.Need-loop-holds Inv-loop μ-loop
-loop-holds c =
-    let args = c .before .before .before .before .args in
-    (omega arith, inner-none (args .o .choices .sets))
+last-several-requires : tie.Need-last-several-requires
+last-several-requires c κs = search needs
 
-mul-count : tie.Need-mul-count Inv-loop μ-loop
-mul-count c = search needs
-
-array-read-count : tie.Need-array-read-count Inv-loop μ-loop
-array-read-count c = search needs
-
-count-requires : tie.Need-count-requires Inv-loop μ-loop
-count-requires c κs = search needs
-
-add-r : tie.Need-add-r Inv-loop μ-loop
-add-r c = search needs
-
-loop-less : tie.Need-loop-less Inv-loop μ-loop
-loop-less c = search needs
-
-loop-again : tie.Need-loop-again Inv-loop μ-loop
-loop-again c =
-    let args = c .before .before .before .before .before .before .before .before .args in
-    let loop = c .before .before .before .loop in
-    (omega arith, ⊎-elim (λ p. p .1 ∙ inner-on (args .o .choices .sets) (loop .r) (c .before .count .ensures) (p .0 .taken)) (λ p. p .1 ∙ loop .inv .1 ∙ inner-same (args .o .choices .sets) (loop .r) (c .before .count .ensures) (p .0 .left)) (c .if1 .came))
-
-returns : tie.Need-returns Inv-loop μ-loop
+returns : tie.Need-returns
 returns c =
-    let args = c .before .before .before .before .before .before .args in
-    let wide = c .before .before .before .before .wide in
-    inner-end (args .o .choices .sets) (c .before .loop .inv .0) (c .loop-test .left) (wide .ensures) (c .before .loop .inv .1)
+    let args = c .before .before .before .before .before .args in
+    c .last-several .ensures ∙ ap (innerOf (args .o .choices .sets)) (c .before .before .before .wide .ensures)
 
 pub inner-role-spec : {M : Type 1} → statement M
-inner-role-spec =
-    tie.close
-    (tie.spec
-    Inv-loop
-    μ-loop
-    wide-requires
-    loop-holds
-    mul-count
-    array-read-count
-    count-requires
-    add-r
-    loop-less
-    loop-again
-    returns)
+inner-role-spec = tie.close (tie.spec wide-requires last-several-requires returns)
