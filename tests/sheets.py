@@ -4,6 +4,7 @@ answers apart again."""
 
 import os
 import platform
+import shlex
 import shutil
 import subprocess
 import sys
@@ -58,7 +59,8 @@ CROSS = "x86_64-linux-gnu-gcc"
 
 def engine_for_x86_64(directory):
     """The command that runs the engine as the proved programs run: compiled
-    for x86-64, and under the kit's emulator where the machine is another."""
+    for x86-64, and where the machine is another under the kit's emulator, or
+    under EMULATOR if that is set."""
     if platform.machine() == "x86_64":
         return [compile_engine(directory)]
     if shutil.which(CROSS) is None:
@@ -66,7 +68,8 @@ def engine_for_x86_64(directory):
     guide = subprocess.run(["rt", "doc"], stdout=subprocess.PIPE, check=True, text=True).stdout.strip()
     kit = os.path.dirname(os.path.dirname(guide))
     emulator = os.path.join(kit, "on", platform.machine(), "toolchain", "bin", "qemu-x86_64")
-    return [emulator, compile_engine(directory, compiler=CROSS, more=["-static"])]
+    words = shlex.split(os.environ.get("EMULATOR", "")) or [emulator]
+    return words + [compile_engine(directory, compiler=CROSS, more=["-static"])]
 
 
 def scratch():

@@ -1,10 +1,10 @@
 -- The laws of `spread`: which moves a slot still waits for, and the table that the slots fill in one walk.
 use Prim.Native.Nat.{ℕ, zero, suc, _+_, _-_, _*_, _/_, _%_, _^_, _≤_, _<_, min}
-use mathlib.Core.Path.{_≡_, refl, sym, ap, _∙_, subst}
+use mathlib.Core.Path.{_≡_, refl, sym, ap, ap₂, _∙_, subst}
 use mathlib.Core.Bool.{Bool, true, false, cond, _||_}
 use mathlib.Core.Logic.{_⊎_, inl, inr}
 use mathlib.Core.List.{List}
-use native.Mathlib.Nat.{pow-suc}
+use native.Mathlib.Nat.{pow-suc, one-mul}
 use native.Mathlib.Omega.{arith}
 use lib.Bits.{bitAnd, bitOr, differ}
 use lib.Count.{under, trailingZeros, trailing-le}
@@ -14,12 +14,12 @@ use lib.Seq.{getD-set-same, getD-set-other}
 use borrow.Author.Tests.{eqb-true, eqb-false, eq-eqb, ne-eqb, lt-ltb}
 use Rattle.facts.specs.Truth.{same-test, or-right, or-split}
 use Rattle.facts.specs.Bits.{bit, insert, indic}
-use Rattle.facts.specs.Laws.{bit-or, bit-and, bit-xor, bit-none, bit-cases, bit-pow, bit-insert, one-shifted}
-use Rattle.facts.specs.Sets.{same-set}
+use Rattle.facts.specs.Laws.{bit-or, bit-and, bit-xor, bit-none, bit-cases, bit-pow, bit-full, bit-shift, bit-insert, and-pow, one-shifted}
+use Rattle.facts.specs.Sets.{_∈_, same-set}
 use Rattle.sheet.specs.Limits.{mostMoves}
 use Rattle.codes.specs.Codes.{covers, stirs, madeBy}
 use Rattle.codes.specs.Table.{word, setsIn, memberIn}
-use Rattle.live.specs.Live.{stirred, missing, Alone, Strewn}
+use Rattle.live.specs.Live.{stirred, ownMoves, missing, Alone, Strewn}
 use Rattle.live.proofs.Laws.{step-yes, step-no}
 
 -- ---- the moves that are missing
@@ -58,6 +58,29 @@ covers-one d outer k = same-test (covers (insert outer k) d) (eqb (missing d out
     go : (i : ℕ) → (eqb (missing d outer) 0 ≡ true) ⊎ (eqb (missing d outer) (2 ^ k) ≡ true) → min (bit (insert outer k) i) (bit d i) ≡ bit d i
     go i (inl e) = omega (arith, bit-insert outer k i, missing-bit d outer i, ap (λ (x : ℕ). bit x i) (eqb-true (missing d outer) 0 e), bit-none i)
     go i (inr e) = omega (arith, bit-insert outer k i, missing-bit d outer i, ap (λ (x : ℕ). bit x i) (eqb-true (missing d outer) (2 ^ k) e), bit-pow k i)
+
+-- ---- the moves of a role
+-- Each of the sixteen is there.
+pub own-has : (role m : ℕ) → m < mostMoves → mostMoves * role + m ∈ ownMoves role
+unfolding ownMoves
+own-has role m h = bit-shift (2 ^ mostMoves - 1) (mostMoves * role) m ∙ bit-full mostMoves m h
+
+-- As the code has them.
+pub own-shifted : (role : ℕ) → role < 4 → (2 ^ mostMoves - 1) * 2 ^ (mostMoves * role) % 2 ^ 64 ≡ ownMoves role
+unfolding ownMoves
+own-shifted zero h = refl
+own-shifted (suc zero) h = refl
+own-shifted (suc (suc zero)) h = refl
+own-shifted (suc (suc (suc zero))) h = refl
+own-shifted (suc (suc (suc (suc role)))) h = absurd (omega arith)
+
+-- No one of them makes up what has other moves too.
+pub alone-apart : (rest role : ℕ) {own : ℕ} → own ≡ ownMoves role → (bitAnd own rest ≡ rest → ⊥) → Alone rest role mostMoves
+alone-apart rest role {own} e n m h =
+    let k = mostMoves * role + m in
+    let part : bitAnd (ownMoves role) (2 ^ k) ≡ 2 ^ k = and-pow (ownMoves role) k ∙ ap (λ (b : ℕ). b * 2 ^ k) (own-has role m h) ∙ one-mul (2 ^ k) in
+    ne-eqb mostMoves m (λ q. omega arith)
+    ∙ sym (ne-eqb rest (2 ^ k) (λ q. n (ap₂ bitAnd e q ∙ part ∙ sym q)))
 
 -- ---- the one move that is missing
 -- The lowest digit of a power of two.

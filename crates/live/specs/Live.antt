@@ -1,5 +1,5 @@
 -- The slots whose facts and views hold in a state, and what they give for a joint move.
-use Prim.Native.Nat.{ℕ, zero, suc, _+_, _*_, _^_, _≤_, _<_}
+use Prim.Native.Nat.{ℕ, zero, suc, _+_, _-_, _*_, _^_, _≤_, _<_}
 use mathlib.Core.Path.{_≡_}
 use mathlib.Core.Bool.{Bool, cond}
 use mathlib.Core.List.{List, [], _∷_, _++_}
@@ -29,6 +29,10 @@ nextBy code joint l = over (stirred code joint) l 0
 -- The table has, at the number of each move of a role, what the slots of a list give where the role makes that move and the others make those in `outer`.
 abbrev pub Spread : List ℕ → List ℕ → (role outer : ℕ) → List ℕ → Type 0
 Spread code slots role outer by = (m : ℕ) → m < mostMoves → getD by m 0 ≡ nextBy code (madeBy role m outer) slots
+
+-- All moves of a role, as a set.
+unfoldable pub ownMoves : ℕ → ℕ
+ownMoves role = (2 ^ mostMoves - 1) * 2 ^ (mostMoves * role)
 
 -- ---- how such a table is found
 -- The moves of d that are not in `outer`.

@@ -5,7 +5,7 @@ ghost use lib.ListN.{length, take};
 ghost use lib.Count.{trailingZeros};
 ghost use Rattle.codes.specs.Codes.{bits, madeBy, jointOf};
 ghost use Rattle.codes.specs.Table.{width, word, memberIn};
-ghost use Rattle.live.specs.Live.{missing, Wiped, Alone, Strewn, Parted, Joined, Spread, Kept, Found, Ready, Narrowed};
+ghost use Rattle.live.specs.Live.{ownMoves, missing, Wiped, Alone, Strewn, Parted, Joined, Spread, Kept, Found, Ready, Narrowed};
 use firing::calm_at;
 use firing::stirs_at;
 use firing::with_member;
@@ -115,6 +115,14 @@ fn missing_at(code: &[u64], c: usize, outer: u64) -> u64
     d ^ (d & outer)
 }
 
+// All moves of a role, as a set.
+pub fn own_moves(role: u64) -> u64
+    requires { ⌜ role < 4 ⌝ }
+    ensures { λ r. ⌜ r ≡ ownMoves role ⌝ }
+{
+    0xffffu64 << (16 * role)
+}
+
 // The number of digits below the lowest one that is set.
 fn lowest(x: u64) -> u64
     ensures { λ r. ⌜ r ≡ trailingZeros 64 x ⌝ }
@@ -127,6 +135,10 @@ fn alone(rest: u64, role: u64) -> usize
     requires { ⌜ role < 4 ⌝ }
     ensures { λ r. ⌜ Alone rest role r ⌝ }
 {
+    // most slots wait for a move of another role, and are done with here
+    if own_moves(role) & rest != rest {
+        return 16;
+    }
     let k = lowest(rest);
     let first = 16 * role;
     if first <= k {

@@ -1,5 +1,5 @@
 -- The role that is singled out, and the successors of a position found for all its moves at once.
-use Prim.Native.Nat.{ℕ, zero, suc, _+_, _-_, _*_, _/_, _%_, _^_, _≤_, _<_}
+use Prim.Native.Nat.{ℕ, zero, suc, _+_, _*_, _/_, _%_, _≤_, _<_}
 use mathlib.Core.Path.{_≡_, refl, sym, ap, ap₂, _∙_, subst}
 use mathlib.Core.Bool.{Bool, true, false, cond}
 use mathlib.Core.List.{List, [], _∷_}
@@ -10,20 +10,19 @@ use native.Mathlib.Omega.{arith}
 use lib.Bits.{bitOr}
 use lib.Dec.{eqb, ltb}
 use lib.ListN.{length, getD, take, set}
-use borrow.Author.Tests.{lt-ltb, le-ltb, eqb-true, eq-eqb, ne-eqb}
-use Rattle.facts.specs.Bits.{bit, has, insert}
-use Rattle.facts.specs.Laws.{bit-insert}
+use borrow.Author.Tests.{lt-ltb, le-ltb, eq-eqb, ne-eqb}
+use Rattle.facts.specs.Bits.{insert}
+use Rattle.facts.specs.Laws.{bit-full, bit-insert}
 use Rattle.facts.specs.Sets.{_∈_, _⊆_, same-set, insert-cases, or-left, or-right}
-use Rattle.atl.specs.Bounded.{every<}
-use Rattle.atl.proofs.Bounded.{every-elim}
 use Rattle.meaning.proofs.Lists.{at-∈}
 use Rattle.choices.specs.Moves.{members, total, decode, four}
 use Rattle.choices.proofs.Members.{member-is}
 use Rattle.sheet.specs.Limits.{mostMoves}
 use Rattle.codes.specs.Codes.{madeBy, jointOf}
-use Rattle.live.specs.Live.{Spread, Serves}
+use Rattle.live.specs.Live.{Spread, ownMoves, Serves}
+use Rattle.live.proofs.Spreading.{own-has}
 use Rattle.live.proofs.Narrowing.{spread-serves}
-use Rattle.offer.specs.Offer.{roleLimit, innerOf, allMoves, ownMoves, freeOf, Frees, Prepared}
+use Rattle.offer.specs.Offer.{roleLimit, innerOf, allMoves, freeOf, Frees, Prepared}
 
 -- ---- the role that is singled out
 module _ (sets : List ℕ) where
@@ -64,30 +63,6 @@ module _ (sets : List ℕ) where
   inner-below (suc n) h = omega (arith, inner-low n)
 
 -- ---- the moves that are free
--- All moves of all roles, and all of one, looked at one by one.
-all-has : (i : ℕ) → i < mostMoves * roleLimit → i ∈ allMoves
-all-has i h = eqb-true (bit allMoves i) 1 (every-elim (mostMoves * roleLimit) (has allMoves) refl i h)
-
-own-has : (role m : ℕ) → role < roleLimit → m < mostMoves → mostMoves * role + m ∈ ownMoves role
-unfolding ownMoves
-own-has role m h k = eqb-true (bit (ownMoves role) (mostMoves * role + m)) 1 (every-elim mostMoves (λ m. has (ownMoves role) (mostMoves * role + m)) (go role h) m k)
-  where
-    go : (role : ℕ) → role < roleLimit → every< mostMoves (λ m. has (ownMoves role) (mostMoves * role + m)) ≡ true
-    go zero h = refl
-    go (suc zero) h = refl
-    go (suc (suc zero)) h = refl
-    go (suc (suc (suc zero))) h = refl
-    go (suc (suc (suc (suc role)))) h = absurd (omega arith)
-
--- As the code has those of a role.
-pub own-shifted : (role : ℕ) → role < roleLimit → (2 ^ mostMoves - 1) * 2 ^ (mostMoves * role) % 2 ^ 64 ≡ ownMoves role
-unfolding ownMoves
-own-shifted zero h = refl
-own-shifted (suc zero) h = refl
-own-shifted (suc (suc zero)) h = refl
-own-shifted (suc (suc (suc zero))) h = refl
-own-shifted (suc (suc (suc (suc role)))) h = absurd (omega arith)
-
 module _ (sets : List ℕ) (inner : ℕ) where
   -- Only role 0 is before the inner role, or another one is.
   pub free-all : {middle : ℕ} → middle ≡ innerOf sets inner → middle ≡ 0 → allMoves ≡ freeOf sets inner
@@ -106,8 +81,8 @@ module _ (sets : List ℕ) (inner : ℕ) where
   free-has h m k = go (eqb (innerOf sets inner) 0)
     where
       go : (t : Bool) → mostMoves * inner + m ∈ cond t allMoves (bitOr (ownMoves inner) (ownMoves (innerOf sets inner)))
-      go true = all-has (mostMoves * inner + m) (omega arith)
-      go false = or-left (ownMoves inner) (ownMoves (innerOf sets inner)) (mostMoves * inner + m) (own-has inner m h k)
+      go true = bit-full (mostMoves * roleLimit) (mostMoves * inner + m) (omega arith)
+      go false = or-left (ownMoves inner) (ownMoves (innerOf sets inner)) (mostMoves * inner + m) (own-has inner m k)
 
 -- Whatever it makes, nothing comes but the moves of the others and free ones.
 pub free-within : (inner free others : ℕ) → Frees inner free → (m : ℕ) → m < mostMoves → madeBy inner m others ⊆ bitOr others free

@@ -17,7 +17,7 @@ use Rattle.choices.specs.Moves.{members, total, decode, four}
 use Rattle.rules.specs.Rules.{nextFacts}
 use Rattle.codes.specs.Codes.{jointOf}
 use Rattle.codes.specs.Table.{Compiled, Sized}
-use Rattle.live.specs.Live.{nextBy, Spread, Ready, Serves}
+use Rattle.live.specs.Live.{nextBy, Spread, ownMoves, Ready, Serves}
 use Rattle.position.specs.Position.{still, lookIn, movesOf, offers, making, leads}
 use Rattle.offer.specs.declared.Offer.{Offer}
 
@@ -66,12 +66,9 @@ unfoldable pub innerOf : List ℕ → ℕ → ℕ
 innerOf sets zero = 0
 innerOf sets (suc r) = cond (ltb 1 (length (members (getD sets r 0)))) r (innerOf sets r)
 
--- All moves of all roles, and all of one role, as sets.
+-- All moves of all roles, as a set.
 abbrev pub allMoves : ℕ
 allMoves = 2 ^ (mostMoves * roleLimit) - 1
-
-unfoldable pub ownMoves : ℕ → ℕ
-ownMoves role = (2 ^ mostMoves - 1) * 2 ^ (mostMoves * role)
 
 -- The moves that may change while the near rules stay: those of the inner role and of the last one before it with several choices. All, where only role 0 is before it.
 unfoldable pub freeOf : List ℕ → ℕ → ℕ

@@ -9,7 +9,7 @@ ghost use Rattle.sheet.specs.Limits.{mostMoves, mostRules};
 ghost use Rattle.codes.specs.Codes.{jointOf};
 ghost use Rattle.codes.specs.Table.{width};
 ghost use Rattle.live.specs.Live.{Found, Ready, Serves};
-ghost use Rattle.offer.specs.Offer.{roleLimit, Whole, Studied, Coded, Lives, offerOf, jointsOf, roleOf, targetOf, innerOf, allMoves, ownMoves, freeOf, Frees, Prepared, KnownFor};
+ghost use Rattle.offer.specs.Offer.{roleLimit, Whole, Studied, Coded, Lives, offerOf, jointsOf, roleOf, targetOf, innerOf, freeOf, Frees, Prepared, KnownFor};
 use choices::Choices;
 use choices::count;
 use choices::joint_move;
@@ -21,6 +21,7 @@ use firing::views_by;
 use live::find_live;
 use live::joint_of;
 use live::narrow;
+use live::own_moves;
 use live::slot_of;
 use live::spread;
 use position::choices_from;
@@ -153,14 +154,6 @@ pub fn inner_role(o: Offer, y: Layout) -> usize
     last_several(sets, roles)
 }
 
-// All moves of a role, as a set.
-fn own_moves(role: usize) -> u64
-    requires { ⌜ role < roleLimit ⌝ }
-    ensures { λ r. ⌜ r ≡ ownMoves role ⌝ }
-{
-    0xffffu64 << (16 * role as u64)
-}
-
 // The moves that may change while the near rules stay: those of the inner role and of the last one before it with several choices. All, where only role 0 is before it.
 pub fn free_moves(o: Offer, inner: usize) -> u64
     requires { ⌜ inner < roleLimit ⌝ }
@@ -172,7 +165,7 @@ pub fn free_moves(o: Offer, inner: usize) -> u64
     if middle == 0 {
         return ALL_MOVES;
     }
-    own_moves(inner) | own_moves(middle)
+    own_moves(inner as u64) | own_moves(middle as u64)
 }
 
 // The moves of all roles but the inner one, as a set.

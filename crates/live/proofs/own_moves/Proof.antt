@@ -1,8 +1,8 @@
--- `offer::own_moves` meets its contract: sixteen digits, shifted.
-use Rattle.offer.proofs.Reaching.{own-shifted}
+-- `live::own_moves` meets its contract: sixteen digits, shifted.
+use Rattle.live.proofs.Spreading.{own-shifted}
 use borrow.Author.Needs.{needs}
-use Rattle.offer.proofs.own_moves.Statement.{statement}
-use Rattle.offer.proofs.own_moves.Tie as tie
+use Rattle.live.proofs.own_moves.Statement.{statement}
+use Rattle.live.proofs.own_moves.Tie as tie
 
 mul-result : tie.Need-mul-result
 mul-result c = search needs
