@@ -116,6 +116,22 @@ def many_rules(width, rules_wanted):
     return join([sz(3, 1, 0, 16), *rules, *nodes, ED]), 2, 2 * width[0] * width[1] * width[2]
 
 
+def waiting_rules(width, rules_wanted):
+    """One state of many joint moves, and many NEXT rules that all wait for the
+    last of four roles, which has two moves: the worst that was found for an
+    engine that finds the successors for all moves of the last role at once.
+    Rules and joint moves grow together, and no rule can be left out for long:
+    the size is the number of pairs of a rule and a joint move."""
+    rng = random.Random(rules_wanted)
+    rules = [ru(INIT, 0), ru(NEXT, 0)]
+    rules += [ru(LEGAL, role, m) for role in range(4) for m in range(width[role])]
+    rules += [x for role in range(4) for x in name_moves(role, range(width[role]))]
+    while len(rules) < rules_wanted:
+        rules.append(ru(NEXT, 0, 0, (DOES, 3, rng.randrange(width[3]))))
+    nodes = [fo(N_FACT, 0), fo(N_EVENTUALLY, 0, 0, 1)]
+    return join([sz(4, 1, 0, 16), *rules, *nodes, ED]), 1, width[0] * width[1] * width[2] * width[3]
+
+
 def nested(nodes_wanted):
     """Questions inside questions over 1,024 states and 8,192 joint moves."""
     sheet, states, joint = many_joint(10)
@@ -171,6 +187,8 @@ def families():
         yield ("one-remainder", 8 * 2 ** digits) + one_remainder(digits)
     for width, rules in (((8, 8, 8), 64), ((16, 8, 8), 128), ((16, 16, 8), 256), ((16, 16, 16), 512)):
         yield ("many-rules", 2 * width[0] * width[1] * width[2]) + many_rules(width, rules)
+    for width, rules in (((8, 8, 8, 2), 64), ((16, 8, 8, 2), 128), ((16, 16, 8, 2), 256), ((16, 16, 16, 2), 512)):
+        yield ("waiting-rules", rules * width[0] * width[1] * width[2] * width[3]) + waiting_rules(width, rules)
 
 
 def write_all(directory):
