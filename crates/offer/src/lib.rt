@@ -169,7 +169,7 @@ pub fn free_moves(o: Offer, inner: usize) -> u64
 }
 
 // The moves of all roles but the inner one, as a set.
-pub fn others_of(m: [u16; 4], inner: usize) -> u64
+fn others_of(m: [u16; 4], inner: usize) -> u64
     requires { ⌜ inner < roleLimit ⌝ }
     ensures { λ r. ⌜ r ≡ jointOf (set m inner mostMoves) ⌝ }
 {
@@ -202,7 +202,7 @@ fn focus(
 }
 
 // The table has the successors for the moves of the other roles: it is filled anew unless it has them, from the near rules where not all moves are free.
-pub fn renew(
+fn renew(
     code: &[u64],
     live: &[u16],
     count: usize,
