@@ -120,8 +120,7 @@ def waiting_rules(width, rules_wanted):
     """One state of many joint moves, and many NEXT rules that all wait for the
     last of four roles, which has two moves: the worst that was found for an
     engine that finds the successors for all moves of the last role at once.
-    Rules and joint moves grow together, and no rule can be left out for long:
-    the size is the number of pairs of a rule and a joint move."""
+    Rules and joint moves grow together."""
     rng = random.Random(rules_wanted)
     rules = [ru(INIT, 0), ru(NEXT, 0)]
     rules += [ru(LEGAL, role, m) for role in range(4) for m in range(width[role])]
@@ -188,7 +187,7 @@ def families():
     for width, rules in (((8, 8, 8), 64), ((16, 8, 8), 128), ((16, 16, 8), 256), ((16, 16, 16), 512)):
         yield ("many-rules", 2 * width[0] * width[1] * width[2]) + many_rules(width, rules)
     for width, rules in (((8, 8, 8, 2), 64), ((16, 8, 8, 2), 128), ((16, 16, 8, 2), 256), ((16, 16, 16, 2), 512)):
-        yield ("waiting-rules", rules * width[0] * width[1] * width[2] * width[3]) + waiting_rules(width, rules)
+        yield ("waiting-rules", width[0] * width[1] * width[2] * width[3]) + waiting_rules(width, rules)
 
 
 def write_all(directory):
