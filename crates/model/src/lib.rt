@@ -2,30 +2,34 @@
 ghost use mathlib.Core.Path.{_≡_};
 ghost use mathlib.Core.List.{_++_};
 ghost use Prim.Native.Nat.{_+_, _*_, _≤_, _<_};
-ghost use lib.ListN.{length, take};
+ghost use lib.ListN.{length, getD, take};
 ghost use Rattle.tables.specs.Lengths.{stateLimit, moveLimit};
 ghost use Rattle.atl.specs.Bounded.{tabulate};
-ghost use Rattle.sheet.specs.Limits.{mostMoves, mostRules};
 ghost use Rattle.sheet.specs.Reading.{sheetIn};
 ghost use Rattle.position.specs.Position.{rulesOf};
-ghost use Rattle.offer.specs.Offer.{roleLimit, Whole, Studied, Coded, Lives, jointsOf, roleOf, targetOf};
+ghost use Rattle.offer.specs.Offer.{roleLimit, Whole, Studied, Coded, Serves, jointsOf, roleOf, targetOf};
 ghost use Rattle.lookup.specs.Tree.{Treed};
+ghost use Rattle.keys.specs.Keys.{giftRoom, Filing, Memo};
 ghost use Rattle.model.specs.Views.{viewsOf};
 ghost use Rattle.model.specs.Tables.{Holds, Clean, Sized, Fresh, Stage};
 ghost use Rattle.model.specs.Answers.{Entered, Listed, Expanded, Explored, Builds};
 use codes::CODE_ROOM;
 use codes::ENDS_ROOM;
 use codes::compile;
-use live::LIVE_ROOM;
+use firing::end_at;
+use keys::Filed;
+use keys::GIFT_ROOM;
+use keys::KEY_ROOM;
+use keys::KIND_ROOM;
+use keys::RULE_ROOM;
+use keys::file;
 use lookup::LINK_LIMIT;
 use lookup::enroll;
 use lookup::seek;
 use offer::Offer;
-use offer::free_moves;
+use offer::gather_at;
 use offer::initial;
-use offer::inner_role;
 use offer::joint_count;
-use offer::live_at;
 use offer::offer_at;
 use offer::reach;
 use offer::role_count;
@@ -91,9 +95,12 @@ fn list_targets(
     s: &[u8],
     y: Layout,
     o: Offer,
-    code: &[u64],
-    live: &[u16],
-    lives: usize,
+    keys: &[u64],
+    probes: &[u8],
+    links: &[u16],
+    filed: Filed,
+    kinds: &[u64],
+    gifts: &[u64],
     m: usize,
     states: &mut [u64],
     tests: &mut [u8],
@@ -101,43 +108,34 @@ fn list_targets(
     n: usize,
     successors: &mut [u16],
     at: usize,
-    near: &mut [u16],
-    by: &mut [u64],
+    asked: &mut [u64],
+    places: &mut [u16],
 ) -> Listing
     requires { ⌜ Whole (now s) y × (m ≡ jointsOf o (y .sizes .roles)) × Clean stateLimit (now states) n × Treed (now states) n (now tests) (now forks)
-        × Clean moveLimit (now successors) at × (at + m ≤ moveLimit) × Lives (sheetIn (now s) y) o (now code) (now live) lives
-        × (length (now live) ≤ length (now near)) × (length (now by) ≡ mostMoves) ⌝ }
+        × Clean moveLimit (now successors) at × (at + m ≤ moveLimit) × Serves (sheetIn (now s) y) o (now keys) (now probes) (now links) filed (now kinds) (now gifts)
+        × Memo (take (filed .keys) (now keys)) (now asked) (now places) ⌝ }
     ensures { λ r. ⌜ Listed stateLimit moveLimit (take n (now (states .entry))) (take at (now (successors .entry))) (tabulate m (targetOf (sheetIn (now (s .entry)) y) o))
-        r (now (states .exit)) (now (tests .exit)) (now (forks .exit)) (now (successors .exit)) (at + m) ⌝ }
+        r (now (states .exit)) (now (tests .exit)) (now (forks .exit)) (now (successors .exit)) (at + m)
+        × Memo (take (filed .keys) (now (keys .entry))) (now (asked .exit)) (now (places .exit)) ⌝ }
 {
-    let inner = inner_role(o, y);
-    let free = free_moves(o, inner);
-    let mut outer: u64 = 0;
-    let mut known = false;
-    let mut kept: usize = 0;
     let mut count = n;
     let mut j: usize = 0;
     while j < m {
-        let r = reach(
+        let to = reach(
             s,
             y,
             o,
-            code,
-            live,
-            lives,
+            keys,
+            probes,
+            links,
+            filed,
+            kinds,
+            gifts,
             j,
-            inner,
-            free,
-            outer,
-            known,
-            kept,
-            near,
-            by,
+            asked,
+            places,
         );
-        outer = r.outer;
-        known = r.known;
-        kept = r.kept;
-        let slot = enter(states, tests, forks, count, r.to);
+        let slot = enter(states, tests, forks, count, to);
         match slot {
             Slot::At(i, more) => {
                 successors[at + j] = i as u16;
@@ -191,16 +189,24 @@ fn expand(
     at: usize,
     counts: &mut [u16],
     views: &mut [u64],
-    live: &mut [u16],
-    near: &mut [u16],
-    by: &mut [u64],
+    homes: &[u16],
+    keys: &[u64],
+    probes: &[u8],
+    links: &[u16],
+    filed: Filed,
+    kinds: &[u64],
+    gifts: &mut [u64],
+    asked: &mut [u64],
+    places: &mut [u16],
 ) -> Step
     requires { ⌜ Whole (now s) y × Studied (sheetIn (now s) y) (now masks) moves × (k < n)
         × Stage (rulesOf (sheetIn (now s) y)) (viewsOf (sheetIn (now s) y)) stateLimit moveLimit k (now states) n (now starts) (now successors) at (now counts) (now views)
         × Treed (now states) n (now tests) (now forks)
-        × Coded (sheetIn (now s) y) (now masks) (now code) (now ends) × (mostRules ≤ length (now live)) × (length (now live) ≤ length (now near)) × (length (now by) ≡ mostMoves) ⌝ }
+        × Coded (sheetIn (now s) y) (now masks) (now code) (now ends) × Filing (now code) (getD (now ends) 0 0) (now keys) (now probes) (now links) (filed .keys) (now homes) (now kinds) (filed .kinds)
+        × (length (now gifts) ≡ giftRoom) × Memo (take (filed .keys) (now keys)) (now asked) (now places) ⌝ }
     ensures { λ r. ⌜ Expanded (rulesOf (sheetIn (now (s .entry)) y)) (viewsOf (sheetIn (now (s .entry)) y)) stateLimit moveLimit k r
-        (now (states .exit)) (now (tests .exit)) (now (forks .exit)) (now (starts .exit)) (now (successors .exit)) (now (counts .exit)) (now (views .exit)) ⌝ }
+        (now (states .exit)) (now (tests .exit)) (now (forks .exit)) (now (starts .exit)) (now (successors .exit)) (now (counts .exit)) (now (views .exit))
+        × Memo (take (filed .keys) (now (keys .entry))) (now (asked .exit)) (now (places .exit)) ⌝ }
 {
     let x = states[k];
     let o = offer_at(s, y, masks, code, ends, moves, x);
@@ -215,14 +221,17 @@ fn expand(
     note_counts(o, y, k, counts);
     views[k] = views_of(o);
     starts[k + 1] = total as u16;
-    let lives = live_at(code, ends, o, live);
+    gather_at(code, ends, o, homes, filed.keys, gifts);
     let listing = list_targets(
         s,
         y,
         o,
-        code,
-        live,
-        lives,
+        keys,
+        probes,
+        links,
+        filed,
+        kinds,
+        gifts,
         m,
         states,
         tests,
@@ -230,8 +239,8 @@ fn expand(
         n,
         successors,
         at,
-        near,
-        by,
+        asked,
+        places,
     );
     match listing {
         Listing::Done(more) => Step::Next(more, total),
@@ -254,14 +263,21 @@ fn explore(
     successors: &mut [u16],
     counts: &mut [u16],
     views: &mut [u64],
-    live: &mut [u16],
-    near: &mut [u16],
-    by: &mut [u64],
+    homes: &[u16],
+    keys: &[u64],
+    probes: &[u8],
+    links: &[u16],
+    filed: Filed,
+    kinds: &[u64],
+    gifts: &mut [u64],
+    asked: &mut [u64],
+    places: &mut [u16],
 ) -> Built
     requires { ⌜ Whole (now s) y × Studied (sheetIn (now s) y) (now masks) moves
         × Stage (rulesOf (sheetIn (now s) y)) (viewsOf (sheetIn (now s) y)) stateLimit moveLimit 0 (now states) 1 (now starts) (now successors) 0 (now counts) (now views)
         × Treed (now states) 1 (now tests) (now forks)
-        × Coded (sheetIn (now s) y) (now masks) (now code) (now ends) × (mostRules ≤ length (now live)) × (length (now live) ≤ length (now near)) × (length (now by) ≡ mostMoves) ⌝ }
+        × Coded (sheetIn (now s) y) (now masks) (now code) (now ends) × Filing (now code) (getD (now ends) 0 0) (now keys) (now probes) (now links) (filed .keys) (now homes) (now kinds) (filed .kinds)
+        × (length (now gifts) ≡ giftRoom) × Memo (take (filed .keys) (now keys)) (now asked) (now places) ⌝ }
     ensures { λ r. ⌜ Explored (rulesOf (sheetIn (now (s .entry)) y)) (viewsOf (sheetIn (now (s .entry)) y)) stateLimit moveLimit r
         (now (states .exit)) (now (starts .exit)) (now (successors .exit)) (now (counts .exit)) (now (views .exit)) ⌝ }
 {
@@ -286,9 +302,15 @@ fn explore(
             at,
             counts,
             views,
-            live,
-            near,
-            by,
+            homes,
+            keys,
+            probes,
+            links,
+            filed,
+            kinds,
+            gifts,
+            asked,
+            places,
         );
         match step {
             Step::Next(more, total) => {
@@ -348,9 +370,24 @@ pub fn build(
     let mut code = [0u64; CODE_ROOM];
     let mut ends = [0u16; ENDS_ROOM];
     compile(s, y.top, y.rules, masks, &mut code, &mut ends);
-    let mut live = [0u16; LIVE_ROOM];
-    let mut near = [0u16; LIVE_ROOM];
-    let mut by = [0u64; 16];
+    let mut keys = [0u64; KEY_ROOM];
+    let mut probes = [0u8; STATE_LIMIT];
+    let mut links = [0u16; LINK_LIMIT];
+    let mut homes = [0u16; RULE_ROOM];
+    let mut kinds = [0u64; KIND_ROOM];
+    let next = end_at(&ends, 0);
+    let filed = file(
+        &code,
+        next,
+        &mut keys,
+        &mut probes,
+        &mut links,
+        &mut homes,
+        &mut kinds,
+    );
+    let mut gifts = [0u64; GIFT_ROOM];
+    let mut asked = [0u64; KIND_ROOM];
+    let mut places = [0u16; KIND_ROOM];
     let built = explore(
         s,
         y,
@@ -365,9 +402,15 @@ pub fn build(
         successors,
         counts,
         views,
-        &mut live,
-        &mut near,
-        &mut by,
+        &homes,
+        &keys,
+        &probes,
+        &links,
+        filed,
+        &kinds,
+        &mut gifts,
+        &mut asked,
+        &mut places,
     );
     if let Built::Refused(f) = built {
         reset(0, states, starts, successors, counts, views);

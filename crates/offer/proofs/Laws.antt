@@ -8,7 +8,7 @@ use lib.Dec.{eqb, ltb}
 use lib.ListN.{length, getD, take}
 use borrow.Author.Tests.{lt-ltb, le-ltb}
 use Rattle.sheet.specs.Limits.{mostRules}
-use Rattle.sheet.specs.Data.{Sheet}
+use Rattle.sheet.specs.Data.{Rule, Sheet}
 use Rattle.sheet.specs.Fields.{Fits}
 use Rattle.rules.specs.declared.Look.{Look}
 use Rattle.rules.specs.Rules.{legalsSet, isTerminal}
@@ -17,17 +17,20 @@ use Rattle.views.proofs.Lists.{listed-length}
 use Rattle.choices.specs.declared.Choices.{Choices}
 use Rattle.choices.specs.Moves.{members, total, decode, four}
 use Rattle.codes.specs.Codes.{jointOf, AllSound}
-use Rattle.codes.specs.Table.{width, Slots, collected}
+use Rattle.codes.specs.Table.{width, Compiled, Sized, Slots, collected}
 use Rattle.codes.proofs.Fits.{fits-sound}
 use Rattle.firing.specs.Firing.{noMoves, viewsBy, Levels}
 use Rattle.firing.proofs.Slots.{next-slots, legal-slots, terminal-slots, levels-are}
 use Rattle.firing.proofs.Views.{views-by, legals-by, terminal-by}
-use Rattle.live.specs.Live.{nextBy, Found}
-use Rattle.live.proofs.Next.{found-ready, found-next}
+use Rattle.keys.specs.Keys.{alive, Filing, Homes, Gathered, given}
+use Rattle.keys.specs.declared.Filed.{Filed}
+use Rattle.keys.proofs.Homing.{home-inside, kinds-few, filing-room}
+use Rattle.keys.proofs.Giving.{given-next, alive-below}
+use Rattle.keys.proofs.Next.{next-live}
 use Rattle.position.specs.Position.{still, lookIn, movesOf, offers, offering, making, leads}
 use Rattle.position.proofs.Laws.{offering-is, leads-stay, leads-on}
 use Rattle.offer.specs.declared.Offer.{Offer}
-use Rattle.offer.specs.Offer.{Studied, Coded, Lives, offerOf, jointsOf, roleOf, targetOf}
+use Rattle.offer.specs.Offer.{Studied, Coded, Serves, offerOf, jointsOf, roleOf, targetOf}
 
 -- what literals are read off: facts, views, and no moves
 abbrev lookWith : ℕ → ℕ → Look
@@ -37,9 +40,10 @@ lookWith x v = record { facts = record { bits = x }; views = record { bits = v }
 pub masks-length : (d : Sheet) (masks moves : List ℕ) → Studied d masks moves → length masks ≡ 64
 masks-length d masks moves t = ap length (t .masks-are) ∙ listed-length (maskAt (reachOf (d .rules))) 64 1
 
--- the live rules, found for the same facts, views and slots
-pub found-for : {code before live : List ℕ} {f g v w to end r : ℕ} → f ≡ g → v ≡ w → to ≡ end → Found code f v to before live r → Found code g w end before live r
-found-for p q e h = rw (p, q, e) at h
+-- what was gathered for the same facts, views and slots
+pub gathered-for : (code homes : List ℕ) (n : ℕ) {gifts : List ℕ} {f g v w to end : ℕ} → f ≡ g → v ≡ w → to ≡ end
+    → Gathered code homes n (alive code f v to) gifts → Gathered code homes n (alive code g w end) gifts
+gathered-for code homes n p q e h = rw (p, q, e) at h
 
 -- What `views_by` and the two walks over LEGAL and TERMINAL give is what the position offers.
 module _ (d : Sheet) (fit : Fits d) (masks moves code ends : List ℕ) (t : Studied d masks moves) (c : Coded d masks code ends) where
@@ -72,21 +76,46 @@ module _ (d : Sheet) (fit : Fits d) (masks moves code ends : List ℕ) (t : Stud
         h ∙ offering-is (d .rules) (lookWith x v) moves over-is legals-are ∙ ap₂ (offers (d .rules)) look-is (t .moves-are) in
         λ i. record { look = look-is i; choices = choices-are i }
 
--- The codes of the NEXT rules.
-module _ {d : Sheet} {masks code ends : List ℕ} (c : Coded d masks code ends) where
-  -- what finding the live rules asks, with room for all rules of a sheet
-  pub live-asks : {n : ℕ} → mostRules ≤ n → (0 < length ends) × (width * getD ends 0 0 ≤ length code) × (getD ends 0 0 ≤ n) × (getD ends 0 0 ≤ mostRules)
-  live-asks room =
-      let inside = next-slots (c .compiled) (c .sized) .inside in
-      let few : getD ends 0 0 ≤ mostRules = omega (arith, c .sized .code-long) in
-      (omega (arith, c .sized .ends-long), inside, omega arith, few)
+-- What filing the codes of the NEXT rules asks.
+pub file-asks : {rs : List Rule} {masks code ends : List ℕ} → Compiled rs masks code ends → Sized code ends → (0 < length ends) × (width * getD ends 0 0 ≤ length code) × (getD ends 0 0 ≤ mostRules)
+file-asks c s =
+    let inside = next-slots c s .inside in
+    (omega (arith, s .ends-long), inside, omega (arith, s .code-long))
 
-  -- those that are found serve every joint move
-  pub lives-are : Fits d → (o : Offer) {before live : List ℕ} {r : ℕ} → mostRules ≤ length before
-      → Found code (o .look .facts .bits) (o .look .views .bits) (getD ends 0 0) before live r → Lives d o code live r
-  lives-are fit o room f = record {
-    ready = found-ready f (next-slots (c .compiled) (c .sized)) (live-asks room .2);
-    next = λ m. found-next (fits-sound d fit) (c .compiled .next) (making (o .look) m) f;
+-- They are filed up to their end, as it was read.
+pub filing-to : {code keys tests forks : List ℕ} {n : ℕ} {homes masks : List ℕ} {kinds to end : ℕ} → to ≡ end → Filing code to keys tests forks n homes masks kinds
+    → Filing code end keys tests forks n homes masks kinds
+filing-to e f = rw e at f
+
+-- They are filed.
+module _ {d : Sheet} {masks code ends : List ℕ} (c : Coded d masks code ends) {keys tests forks homes kind-masks : List ℕ} {filed : Filed}
+    (f : Filing code (getD ends 0 0) keys tests forks (filed .keys) homes kind-masks (filed .kinds)) where
+  -- there are no more of them than rules
+  next-few : getD ends 0 0 ≤ mostRules
+  next-few = file-asks (c .compiled) (c .sized) .2
+
+  -- what gathering asks
+  pub gather-asks : (0 < length ends) × Homes code (getD ends 0 0) homes (filed .keys)
+  gather-asks = (
+    file-asks (c .compiled) (c .sized) .0,
+    record {
+      inside = file-asks (c .compiled) (c .sized) .1;
+      members = λ i h. next-slots (c .compiled) (c .sized) .members i (omega arith) h;
+      homes-long = omega (arith, next-few, f .homes-long);
+      homes-low = λ i h. omega (arith, f .homes-are i h, f .count, home-inside code (getD ends 0 0) i h);
+      few = omega (arith, next-few, filing-room f);
+    },
+  )
+
+  -- what is gathered serves every joint move
+  pub gathered-serves : Fits d → (o : Offer) {gifts : List ℕ} → Gathered code homes (filed .keys) (alive code (o .look .facts .bits) (o .look .views .bits) (getD ends 0 0)) gifts
+      → Serves d o keys tests forks filed kind-masks gifts
+  gathered-serves fit o g = record {
+    tree = f .tree;
+    few = omega (arith, f .kinds-are, kinds-few code (getD ends 0 0));
+    masks-long = f .masks-long;
+    room = omega (arith, g .gifts-long, next-few, filing-room f);
+    next = λ m. given-next f g (alive-below code (o .look .facts .bits) (o .look .views .bits) (getD ends 0 0)) m ∙ next-live (fits-sound d fit) (c .compiled .next) (making (o .look) m);
   }
 
 module _ (o : Offer) where
@@ -112,10 +141,11 @@ module _ (o : Offer) where
   unfolding targetOf
   target-stays d j h e = e ∙ leads-stay (d .rules) (o .look) (four (decode (take (d .sizes .roles) (o .choices .sets)) j)) (o .choices .terminal) h
 
-  -- else it goes by the live rules
-  pub target-goes : (d : Sheet) (r j : ℕ) {t count joint : ℕ} {m code live : List ℕ} → o .choices .terminal ≡ false → r ≡ d .sizes .roles → m ≡ four (decode (take r (o .choices .sets)) j)
-      → Lives d o code live count → joint ≡ jointOf m → t ≡ nextBy code joint (take count live) → t ≡ targetOf d o j
+  -- else it goes by what is looked up
+  pub target-goes : (d : Sheet) (r j : ℕ) {t joint : ℕ} {m keys tests forks : List ℕ} {filed : Filed} {masks gifts : List ℕ} → o .choices .terminal ≡ false → r ≡ d .sizes .roles
+      → m ≡ four (decode (take r (o .choices .sets)) j) → Serves d o keys tests forks filed masks gifts → joint ≡ jointOf m
+      → t ≡ given (take (filed .keys) keys) masks gifts joint (filed .kinds) → t ≡ targetOf d o j
   unfolding targetOf
-  target-goes d r j {t} {count} {joint} {m} {code} {live} h e f l g k =
-      leads-on (d .rules) (o .look) m (o .choices .terminal) t h (k ∙ ap (λ (y : ℕ). nextBy code y (take count live)) g ∙ l .next m)
+  target-goes d r j {t} {joint} {m} {keys} {filed = filed} {masks} {gifts} h e f l g k =
+      leads-on (d .rules) (o .look) m (o .choices .terminal) t h (k ∙ ap (λ (y : ℕ). given (take (filed .keys) keys) masks gifts y (filed .kinds)) g ∙ l .next m)
       ∙ ap (leads (d .rules) (o .look) (o .choices .terminal)) (f ∙ ap (λ (n : ℕ). four (decode (take n (o .choices .sets)) j)) e)

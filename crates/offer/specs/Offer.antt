@@ -1,13 +1,10 @@
 -- What a position of a sheet's game offers, computed: how many joint moves, how many for each role, and where each leads.
-use Prim.Native.Nat.{ℕ, zero, suc, _+_, _-_, _*_, _^_, _≤_, _<_}
+use Prim.Native.Nat.{ℕ, _≤_, _<_}
 use mathlib.Core.Path.{_≡_}
-use mathlib.Core.Bool.{Bool, true, cond}
+use mathlib.Core.Bool.{cond}
 use mathlib.Core.List.{List}
-use lib.Bits.{bitOr}
-use lib.Dec.{eqb, ltb}
+use lib.Dec.{ltb}
 use lib.ListN.{length, getD, take}
-use Rattle.facts.specs.Sets.{_∈_}
-use Rattle.sheet.specs.Limits.{mostMoves}
 use Rattle.sheet.specs.Data.{Sheet, rulesEnd}
 use Rattle.sheet.specs.Fields.{Fits}
 use Rattle.sheet.specs.Reading.{sheetIn}
@@ -17,7 +14,9 @@ use Rattle.choices.specs.Moves.{members, total, decode, four}
 use Rattle.rules.specs.Rules.{nextFacts}
 use Rattle.codes.specs.Codes.{jointOf}
 use Rattle.codes.specs.Table.{Compiled, Sized}
-use Rattle.live.specs.Live.{nextBy, Spread, ownMoves, Ready, Serves}
+use Rattle.lookup.specs.Tree.{Treed}
+use Rattle.keys.specs.Keys.{kindRoom, given}
+use Rattle.keys.specs.declared.Filed.{Filed}
 use Rattle.position.specs.Position.{still, lookIn, movesOf, offers, making, leads}
 use Rattle.offer.specs.declared.Offer.{Offer}
 
@@ -40,10 +39,13 @@ pub record Coded (d : Sheet) (masks code ends : List ℕ) : Type 0 where
   pub compiled : Compiled (d .rules) masks code ends
   pub sized : Sized code ends
 
--- The live rules that were found serve every joint move of the position.
-pub record Lives (d : Sheet) (o : Offer) (code live : List ℕ) (count : ℕ) : Type 0 where
-  pub ready : Ready code live count
-  pub next : (m : List ℕ) → nextBy code (jointOf m) (take count live) ≡ nextFacts (d .rules) (making (o .look) m)
+-- The tables in which successors are looked up serve every joint move of the position: what they have is what the NEXT rules give.
+pub record Serves (d : Sheet) (o : Offer) (keys tests forks : List ℕ) (filed : Filed) (masks gifts : List ℕ) : Type 0 where
+  pub tree : Treed keys (filed .keys) tests forks
+  pub few : filed .kinds ≤ kindRoom
+  pub masks-long : length masks ≡ kindRoom
+  pub room : filed .keys < length gifts
+  pub next : (m : List ℕ) → given (take (filed .keys) keys) masks gifts (jointOf m) (filed .kinds) ≡ nextFacts (d .rules) (making (o .look) m)
 
 -- What position x offers.
 unfoldable pub offerOf : Sheet → ℕ → Offer
@@ -60,29 +62,3 @@ roleOf o roles role = cond (ltb role roles) (length (members (getD (o .choices .
 -- Where joint move j leads.
 unfoldable pub targetOf : Sheet → Offer → ℕ → ℕ
 targetOf d o j = leads (d .rules) (o .look) (o .choices .terminal) (four (decode (take (d .sizes .roles) (o .choices .sets)) j))
-
--- The last of the first roles that has several choices, or role 0. Of all roles it is the inner one: from one joint move to the next mostly its move alone changes.
-unfoldable pub innerOf : List ℕ → ℕ → ℕ
-innerOf sets zero = 0
-innerOf sets (suc r) = cond (ltb 1 (length (members (getD sets r 0)))) r (innerOf sets r)
-
--- All moves of all roles, as a set.
-abbrev pub allMoves : ℕ
-allMoves = 2 ^ (mostMoves * roleLimit) - 1
-
--- The moves that may change while the near rules stay: those of the inner role and of the last one before it with several choices. All, where only role 0 is before it.
-unfoldable pub freeOf : List ℕ → ℕ → ℕ
-freeOf sets inner = cond (eqb (innerOf sets inner) 0) allMoves (bitOr (ownMoves inner) (ownMoves (innerOf sets inner)))
-
--- The inner role may make any move.
-abbrev pub Frees : (inner free : ℕ) → Type 0
-Frees inner free = (m : ℕ) → m < mostMoves → mostMoves * inner + m ∈ free
-
--- The table has the successors for each move of the inner role, the others making those in `outer`; and the near rules serve, where not all moves are free, as long as only free moves change.
-pub record Prepared (code slots : List ℕ) (inner free outer : ℕ) (near : List ℕ) (kept : ℕ) (by : List ℕ) : Type 0 where
-  pub table : Spread code slots inner outer by
-  pub serves : (free ≡ allMoves → ⊥) → Serves code slots (bitOr outer free) near kept
-
--- That, where it is known.
-abbrev pub KnownFor : Bool → (code slots : List ℕ) → (inner free outer : ℕ) → (near : List ℕ) → (kept : ℕ) → (by : List ℕ) → Type 0
-KnownFor known code slots inner free outer near kept by = known ≡ true → Prepared code slots inner free outer near kept by

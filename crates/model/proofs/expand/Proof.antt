@@ -6,7 +6,7 @@ use Rattle.model.proofs.Holding.{holds-length, holds-clean}
 use Rattle.model.proofs.Answering.{lacks-choice, too-many-moves, too-many-states, one-more}
 use mathlib.Core.Path.{refl}
 use Rattle.offer.proofs.Right.{few-roles}
-use Rattle.offer.proofs.Laws.{live-asks, lives-are}
+use Rattle.offer.proofs.Laws.{gather-asks, gathered-serves}
 use borrow.Author.Needs.{needs}
 use Rattle.model.proofs.expand.Statement.{statement}
 use Rattle.model.proofs.expand.Tie as tie
@@ -16,44 +16,41 @@ mul-x c = search needs
 
 slice-read-x : tie.Need-slice-read-x
 slice-read-x c =
-    let pre = c .before .before .before .before .before .before .before .before .before .before .before .before .before .before .pre in
-    let pre = pre in omega (arith, holds-length (pre .3 .states-hold), pre .2)
+    let start = c .before .before .before .before .before .before .before .before .before .before .before .before .before .before .before .before .before .before .before in
+    omega (arith, holds-length (start .pre .3 .states-hold), start .pre .2)
 
 offer-at-requires : tie.Need-offer-at-requires
 offer-at-requires c κs =
-    let pre = c .before .before .before .before .before .before .before .before .before .before .before .before .before .before .pre in
-    let pre = pre in (pre .0, pre .1, pre .5)
+    let start = c .before .before .before .before .before .before .before .before .before .before .before .before .before .before .before .before .before .before .before in
+    (start .pre .0, start .pre .1, start .pre .5)
 
 joint-count-requires : tie.Need-joint-count-requires
 joint-count-requires c κs =
-    let args = c .before .before .before .before .before .before .before .before .before .before .before .before .before .before .before .args in
-    let pre = c .before .before .before .before .before .before .before .before .before .before .before .before .before .before .before .pre in
-    few-roles (sheetIn (args .s .now) (args .y)) (pre .0 .fits)
+    let start = c .before .before .before .before .before .before .before .before .before .before .before .before .before .before .before .before .before .before .before .before in
+    few-roles (sheetIn (start .args .s .now) (start .args .y)) (start .pre .0 .fits)
 
 returns : tie.Need-returns
 returns c =
-    let args = c .before .before .before .before .before .before .before .before .before .before .before .before .before .before .before .before .before .args in
-    let pre = c .before .before .before .before .before .before .before .before .before .before .before .before .before .before .before .before .before .pre in
-    lacks-choice (sheetIn (args .s .now) (args .y)) (pre .0 .fits) stateLimit moveLimit (pre .3) (pre .2) refl (c .before .before .offer-at .ensures) (c .before .joint-count .ensures) (c .if1 .taken)
+    let start = c .before .before .before .before .before .before .before .before .before .before .before .before .before .before .before .before .before .before .before .before .before .before in
+    (lacks-choice (sheetIn (start .args .s .now) (start .args .y)) (start .pre .0 .fits) stateLimit moveLimit (start .pre .3) (start .pre .2) refl (c .before .before .offer-at .ensures) (c .before .joint-count .ensures) (c .if1 .taken), start .pre .8)
 
 sub-if2 : tie.Need-sub-if2
 sub-if2 c =
-    let pre = c .before .before .before .before .before .before .before .before .before .before .before .before .before .before .before .before .before .pre in
-    let pre = pre in omega (arith, pre .3 .successors-hold .room)
+    let start = c .before .before .before .before .before .before .before .before .before .before .before .before .before .before .before .before .before .before .before .before .before .before in
+    omega (arith, start .pre .3 .successors-hold .room)
 
 returns-2 : tie.Need-returns-2
 returns-2 c =
-    let args = c .before .before .before .before .before .before .before .before .before .before .before .before .before .before .before .before .before .before .args in
-    let pre = c .before .before .before .before .before .before .before .before .before .before .before .before .before .before .before .before .before .before .pre in
-    too-many-moves (sheetIn (args .s .now) (args .y)) (pre .0 .fits) stateLimit moveLimit (pre .3) (pre .2) refl (c .before .before .before .offer-at .ensures) (c .before .before .joint-count .ensures) (c .before .if1 .left) (c .if2 .taken)
+    let start = c .before .before .before .before .before .before .before .before .before .before .before .before .before .before .before .before .before .before .before .before .before .before .before in
+    (too-many-moves (sheetIn (start .args .s .now) (start .args .y)) (start .pre .0 .fits) stateLimit moveLimit (start .pre .3) (start .pre .2) refl (c .before .before .before .offer-at .ensures) (c .before .before .joint-count .ensures) (c .before .if1 .left) (c .if2 .taken), start .pre .8)
 
 add-total : tie.Need-add-total
 add-total c = search needs
 
 note-counts-requires : tie.Need-note-counts-requires
 note-counts-requires c κs =
-    let pre = c .before .before .before .before .before .before .before .before .before .before .before .before .before .before .before .before .before .before .before .pre in
-    let pre = pre in (omega (arith, pre .2, pre .3 .states-hold .room), holds-clean (pre .3 .counts-hold))
+    let start = c .before .before .before .before .before .before .before .before .before .before .before .before .before .before .before .before .before .before .before .before .before .before .before .before in
+    (omega (arith, start .pre .2, start .pre .3 .states-hold .room), holds-clean (start .pre .3 .counts-hold))
 
 views-of-requires : tie.Need-views-of-requires
 views-of-requires c κs = search needs
@@ -63,8 +60,8 @@ mul-views c = search needs
 
 slice-write-views : tie.Need-slice-write-views
 slice-write-views c =
-    let pre = c .before .before .before .before .before .before .before .before .before .before .before .before .before .before .before .before .before .before .before .before .before .before .before .pre in
-    let pre = pre in omega (arith, holds-length (pre .3 .views-hold), pre .2, pre .3 .states-hold .room)
+    let start = c .before .before .before .before .before .before .before .before .before .before .before .before .before .before .before .before .before .before .before .before .before .before .before .before .before .before .before .before in
+    omega (arith, holds-length (start .pre .3 .views-hold), start .pre .2, start .pre .3 .states-hold .room)
 
 cast-starts : tie.Need-cast-starts
 cast-starts c = search needs
@@ -77,21 +74,21 @@ mul-starts c = search needs
 
 slice-write-starts : tie.Need-slice-write-starts
 slice-write-starts c =
-    let pre = c .before .before .before .before .before .before .before .before .before .before .before .before .before .before .before .before .before .before .before .before .before .before .before .pre in
-    let pre = pre in omega (arith, holds-length (pre .3 .starts-hold), pre .2, pre .3 .states-hold .room)
+    let start = c .before .before .before .before .before .before .before .before .before .before .before .before .before .before .before .before .before .before .before .before .before .before .before .before .before .before .before .before in
+    omega (arith, holds-length (start .pre .3 .starts-hold), start .pre .2, start .pre .3 .states-hold .room)
 
-live-at-requires : tie.Need-live-at-requires
-live-at-requires c κs =
-    let pre = c .before .before .before .before .before .before .before .before .before .before .before .before .before .before .before .before .before .before .before .before .before .before .before .before .pre in
-    let pre = pre in live-asks (pre .5) (pre .6)
+gather-at-requires : tie.Need-gather-at-requires
+gather-at-requires c κs =
+    let start = c .before .before .before .before .before .before .before .before .before .before .before .before .before .before .before .before .before .before .before .before .before .before .before .before .before .before .before .before .before in
+    let asks = gather-asks (start .pre .5) (start .pre .6) in (asks .0, asks .1, start .pre .7)
 
 list-targets-requires : tie.Need-list-targets-requires
 list-targets-requires c κs =
-    let pre = c .before .before .before .before .before .before .before .before .before .before .before .before .before .before .before .before .before .before .before .before .before .before .before .before .before .before .before .before .before .before .before .before .before .before .pre in
-    let joint-count = c .before .before .before .before .before .before .before .before .before .before .before .before .before .before .before .before .before .before .joint-count in
-    let if2 = c .before .before .before .before .before .before .before .before .before .before .before .before .before .before .before .before .if2 in
-    let live-at = c .before .before .before .before .before .before .before .before .before .live-at in
-    let pre = pre in let joint-count = joint-count in let if2 = if2 in let live-at = live-at in (pre .0, joint-count .ensures, holds-clean (pre .3 .states-hold), pre .4, holds-clean (pre .3 .successors-hold), omega (arith, if2 .left, pre .3 .successors-hold .room), lives-are (pre .5) (pre .0 .fits) _ (pre .6) (live-at .ensures), omega (arith, live-at .kept .1 .1 .1 .0, pre .7), pre .8)
+    let at-gather-at = c .before .before .before .before .before .before .before .before .before in
+    let at-if2 = at-gather-at .before .before .before .before .before .before .before in
+    let at-joint-count = at-if2 .before .before in
+    let start = at-joint-count .before .before .before .before .before .before .before .before .before .before .before .before .before .before .before .before .before .before .before .before .before in
+    (start .pre .0, at-joint-count .joint-count .ensures, holds-clean (start .pre .3 .states-hold), start .pre .4, holds-clean (start .pre .3 .successors-hold), omega (arith, at-if2 .if2 .left, start .pre .3 .successors-hold .room), gathered-serves (start .pre .5) (start .pre .6) (start .pre .0 .fits) _ (at-gather-at .gather-at .ensures), start .pre .8)
 
 enum-known-listing : tie.Need-enum-known-listing
 enum-known-listing c = search needs
@@ -131,16 +128,15 @@ same-length-10 c = search needs
 
 returns-3 : tie.Need-returns-3
 returns-3 c =
-    let args = c .before .before .before .before .before .before .before .before .before .before .before .before .before .before .before .before .before .before .before .before .before .before .before .before .before .before .before .before .before .before .before .before .before .before .before .before .before .before .before .before .before .before .before .before .before .before .before .before .before .before .args in
-    let pre = c .before .before .before .before .before .before .before .before .before .before .before .before .before .before .before .before .before .before .before .before .before .before .before .before .before .before .before .before .before .before .before .before .before .before .before .before .before .before .before .before .before .before .before .before .before .before .before .before .before .before .pre in
-    let offer-at = c .before .before .before .before .before .before .before .before .before .before .before .before .before .before .before .before .before .before .before .before .before .before .before .before .before .before .before .before .before .before .before .before .before .before .before .offer-at in
-    let joint-count = c .before .before .before .before .before .before .before .before .before .before .before .before .before .before .before .before .before .before .before .before .before .before .before .before .before .before .before .before .before .before .before .before .before .before .joint-count in
-    let if1 = c .before .before .before .before .before .before .before .before .before .before .before .before .before .before .before .before .before .before .before .before .before .before .before .before .before .before .before .before .before .before .before .before .before .if1 in
-    let if2 = c .before .before .before .before .before .before .before .before .before .before .before .before .before .before .before .before .before .before .before .before .before .before .before .before .before .before .before .before .before .before .before .before .if2 in
-    let list-targets = c .before .before .before .before .before .before .before .before .before .before .before .before .before .before .before .list-targets in
-    let views-of = c .before .before .before .before .before .before .before .before .before .before .before .before .before .before .before .before .before .before .before .before .before .before .before .before .before .before .before .views-of in
-    let note-counts = c .before .before .before .before .before .before .before .before .before .before .before .before .before .before .before .before .before .before .before .before .before .before .before .before .before .before .before .before .before .before .note-counts in
-    one-more (sheetIn (args .s .now) (args .y)) (pre .0 .fits) stateLimit moveLimit (pre .3) (pre .2) refl (offer-at .ensures) (joint-count .ensures) (if1 .left) (if2 .left) _ _ _ _ _ (list-targets .ensures) (c .before .listing .given .1) (views-of .ensures) (note-counts .ensures)
+    let at-list-targets = c .before .before .before .before .before .before .before .before .before .before .before .before .before .before .before in
+    let at-views-of = at-list-targets .before .before .before .before .before .before .before .before .before .before .before .before in
+    let at-note-counts = at-views-of .before .before .before in
+    let at-if2 = at-note-counts .before .before in
+    let at-if1 = at-if2 .before in
+    let at-joint-count = at-if1 .before in
+    let at-offer-at = at-joint-count .before in
+    let start = at-offer-at .before .before .before .before .before .before .before .before .before .before .before .before .before .before .before .before .before .before .before .before in
+    (one-more (sheetIn (start .args .s .now) (start .args .y)) (start .pre .0 .fits) stateLimit moveLimit (start .pre .3) (start .pre .2) refl (at-offer-at .offer-at .ensures) (at-joint-count .joint-count .ensures) (at-if1 .if1 .left) (at-if2 .if2 .left) _ _ _ _ _ (at-list-targets .list-targets .ensures .0) (c .before .listing .given .1) (at-views-of .views-of .ensures) (at-note-counts .note-counts .ensures), at-list-targets .list-targets .ensures .1)
 
 same-length-11 : tie.Need-same-length-11
 same-length-11 c = search needs
@@ -174,14 +170,13 @@ same-length-20 c = search needs
 
 returns-4 : tie.Need-returns-4
 returns-4 c =
-    let args = c .before .before .before .before .before .before .before .before .before .before .before .before .before .before .before .before .before .before .before .before .before .before .before .before .before .before .before .before .before .before .before .before .before .before .before .before .before .before .before .before .before .before .before .before .before .before .before .before .before .args in
-    let pre = c .before .before .before .before .before .before .before .before .before .before .before .before .before .before .before .before .before .before .before .before .before .before .before .before .before .before .before .before .before .before .before .before .before .before .before .before .before .before .before .before .before .before .before .before .before .before .before .before .before .pre in
-    let offer-at = c .before .before .before .before .before .before .before .before .before .before .before .before .before .before .before .before .before .before .before .before .before .before .before .before .before .before .before .before .before .before .before .before .before .before .offer-at in
-    let joint-count = c .before .before .before .before .before .before .before .before .before .before .before .before .before .before .before .before .before .before .before .before .before .before .before .before .before .before .before .before .before .before .before .before .before .joint-count in
-    let if1 = c .before .before .before .before .before .before .before .before .before .before .before .before .before .before .before .before .before .before .before .before .before .before .before .before .before .before .before .before .before .before .before .before .if1 in
-    let if2 = c .before .before .before .before .before .before .before .before .before .before .before .before .before .before .before .before .before .before .before .before .before .before .before .before .before .before .before .before .before .before .before .if2 in
-    let list-targets = c .before .before .before .before .before .before .before .before .before .before .before .before .before .before .list-targets in
-    too-many-states (sheetIn (args .s .now) (args .y)) (pre .0 .fits) stateLimit moveLimit (pre .3) (pre .2) refl (offer-at .ensures) (joint-count .ensures) (if1 .left) (if2 .left) _ _ _ _ _ (list-targets .ensures) (c .enum-told .given .1)
+    let at-list-targets = c .before .before .before .before .before .before .before .before .before .before .before .before .before .before in
+    let at-if2 = at-list-targets .before .before .before .before .before .before .before .before .before .before .before .before .before .before .before .before .before in
+    let at-if1 = at-if2 .before in
+    let at-joint-count = at-if1 .before in
+    let at-offer-at = at-joint-count .before in
+    let start = at-offer-at .before .before .before .before .before .before .before .before .before .before .before .before .before .before .before .before .before .before .before .before in
+    (too-many-states (sheetIn (start .args .s .now) (start .args .y)) (start .pre .0 .fits) stateLimit moveLimit (start .pre .3) (start .pre .2) refl (at-offer-at .offer-at .ensures) (at-joint-count .joint-count .ensures) (at-if1 .if1 .left) (at-if2 .if2 .left) _ _ _ _ _ (at-list-targets .list-targets .ensures .0) (c .enum-told .given .1), at-list-targets .list-targets .ensures .1)
 
 pub expand-spec : {M : Type 1} → statement M
 expand-spec =
@@ -203,7 +198,7 @@ expand-spec =
     add-starts
     mul-starts
     slice-write-starts
-    live-at-requires
+    gather-at-requires
     list-targets-requires
     enum-known-listing
     enum-told

@@ -1,10 +1,9 @@
 -- `model::explore` meets its contract. The invariant: the tables hold what is found when k states are expanded.
 use borrow.Author.Needs.{needs}
 use native.Mathlib.Omega.{arith}
-use mathlib.Core.Path.{_≡_, refl}
-use Prim.Native.Nat.{_-_, _≤_}
-use lib.ListN.{length}
-use Rattle.sheet.specs.Limits.{mostMoves, mostRules}
+use mathlib.Core.Path.{_≡_, _∙_, sym}
+use Prim.Native.Nat.{_-_}
+use lib.ListN.{length, take}
 use Rattle.sheet.specs.Reading.{sheetIn}
 use Rattle.position.specs.Position.{rulesOf}
 use Rattle.tables.specs.Lengths.{stateLimit, moveLimit}
@@ -13,26 +12,27 @@ use Rattle.model.specs.Views.{viewsOf}
 use Rattle.model.specs.Tables.{Stage}
 use Rattle.model.proofs.Expanding.{done}
 use Rattle.model.proofs.Exploring.{went-on, stopped, staged-sizes}
+use Rattle.keys.specs.Keys.{giftRoom, Memo}
 use Rattle.model.proofs.explore.Statement.{statement}
 use Rattle.model.proofs.explore.Tie as tie
 
 abbrev Inv-loop : tie.InvT-loop
-Inv-loop s y masks code ends moves states₀ tests₀ forks₀ starts₀ successors₀ counts₀ views₀ live₀ near₀ by₀ n₀ at₀ k₀ states tests forks starts successors counts views live near by n at k = Stage (rulesOf (sheetIn s y)) (viewsOf (sheetIn s y)) stateLimit moveLimit k states n starts successors at counts views × Treed states n tests forks × (mostRules ≤ length live) × (length live ≡ length live₀) × (length near ≡ length near₀) × (length by ≡ mostMoves)
+Inv-loop s y masks code ends moves states₀ tests₀ forks₀ starts₀ successors₀ counts₀ views₀ homes keys probes links filed kinds gifts₀ asked₀ places₀ n₀ at₀ k₀ states tests forks starts successors counts views gifts asked places n at k = Stage (rulesOf (sheetIn s y)) (viewsOf (sheetIn s y)) stateLimit moveLimit k states n starts successors at counts views × Treed states n tests forks × (length gifts ≡ giftRoom) × Memo (take (filed .keys) keys) asked places
 
 abbrev μ-loop : tie.MeasureT-loop
-μ-loop s y masks code ends moves states₀ tests₀ forks₀ starts₀ successors₀ counts₀ views₀ live₀ near₀ by₀ n₀ at₀ k₀ states tests forks starts successors counts views live near by n at k = stateLimit - k
+μ-loop s y masks code ends moves states₀ tests₀ forks₀ starts₀ successors₀ counts₀ views₀ homes keys probes links filed kinds gifts₀ asked₀ places₀ n₀ at₀ k₀ states tests forks starts successors counts views gifts asked places n at k = stateLimit - k
 
 loop-holds : tie.Need-loop-holds Inv-loop μ-loop
 loop-holds c =
-    let pre = c .before .before .before .before .before .before .before .before .before .before .before .before .before .pre in
-    let pre = pre in (pre .2, pre .3, pre .5, refl, refl, pre .7)
+    let start = c .before .before .before .before .before .before .before .before .before .before .before .before .before .before .before .before .before .before in
+    (start .pre .2, start .pre .3, start .pre .6, start .pre .7)
 
 expand-requires : tie.Need-expand-requires Inv-loop μ-loop
 expand-requires c κs =
-    let pre = c .before .before .before .before .before .before .before .before .before .before .before .before .before .before .before .before .before .before .before .before .before .before .before .before .before .pre in
-    let loop-test = c .before .before .before .before .before .before .before .before .before .before .loop-test in
-    let loop = c .before .before .before .before .before .before .before .before .before .before .before .loop in
-    let pre = pre in let loop-test = loop-test in let loop = loop in (pre .0, pre .1, loop-test .taken, loop .inv .0, loop .inv .1, pre .4, loop .inv .2, omega (arith, loop .inv .3, loop .inv .4, pre .6), loop .inv .5)
+    let at-loop-test = c .before .before .before .before .before .before .before .before .before .before in
+    let at-loop = at-loop-test .before in
+    let start = at-loop .before .before .before .before .before .before .before .before .before .before .before .before .before .before .before .before .before .before .before in
+    (start .pre .0, start .pre .1, at-loop-test .loop-test .taken, at-loop .loop .inv .0, at-loop .loop .inv .1, start .pre .4, start .pre .5, at-loop .loop .inv .2, at-loop .loop .inv .3)
 
 enum-known-step : tie.Need-enum-known-step Inv-loop μ-loop
 enum-known-step c = search needs
@@ -42,139 +42,143 @@ enum-known-step-2 c = search needs
 
 same-length : tie.Need-same-length Inv-loop μ-loop
 same-length c =
-    let expand = c .before .before .before .before .before .before .before .before .before .before .before .before .before .before .before .before .before .before .before .before .before .before .before .expand in
-    let loop = c .before .before .before .before .before .before .before .before .before .before .before .before .before .before .before .before .before .before .before .before .before .before .before .before .before .before .before .before .before .before .before .before .before .before .before .loop in
-    let pre = c .before .before .before .before .before .before .before .before .before .before .before .before .before .before .before .before .before .before .before .before .before .before .before .before .before .before .before .before .before .before .before .before .before .before .before .before .before .before .before .before .before .before .before .before .before .before .before .before .before .pre in
-    let expand = expand in let loop = loop in let pre = pre in omega (arith, expand .kept .1 .1 .1 .1 .1 .1 .1 .0, staged-sizes (loop .inv .0) .states-long, staged-sizes (pre .2) .states-long)
+    let at-expand = c .before .before .before .before .before .before .before .before .before .before .before .before .before .before .before .before .before .before .before .before .before .before .before in
+    let at-loop = at-expand .before .before .before .before .before .before .before .before .before .before .before .before in
+    let start = at-loop .before .before .before .before .before .before .before .before .before .before .before .before .before .before .before .before .before .before .before in
+    omega (arith, at-expand .expand .kept .1 .1 .1 .1 .1 .1 .1 .0, staged-sizes (at-loop .loop .inv .0) .states-long, staged-sizes (start .pre .2) .states-long)
 
 same-length-2 : tie.Need-same-length-2 Inv-loop μ-loop
 same-length-2 c =
-    let expand = c .before .before .before .before .before .before .before .before .before .before .before .before .before .before .before .before .before .before .before .before .before .before .before .expand in
-    let loop = c .before .before .before .before .before .before .before .before .before .before .before .before .before .before .before .before .before .before .before .before .before .before .before .before .before .before .before .before .before .before .before .before .before .before .before .loop in
-    let pre = c .before .before .before .before .before .before .before .before .before .before .before .before .before .before .before .before .before .before .before .before .before .before .before .before .before .before .before .before .before .before .before .before .before .before .before .before .before .before .before .before .before .before .before .before .before .before .before .before .before .pre in
-    let expand = expand in let loop = loop in let pre = pre in omega (arith, expand .kept .1 .1 .1 .1 .1 .1 .1 .1 .0, loop .inv .1 .forked .tests-long, pre .3 .forked .tests-long)
+    let at-expand = c .before .before .before .before .before .before .before .before .before .before .before .before .before .before .before .before .before .before .before .before .before .before .before in
+    let at-loop = at-expand .before .before .before .before .before .before .before .before .before .before .before .before in
+    let start = at-loop .before .before .before .before .before .before .before .before .before .before .before .before .before .before .before .before .before .before .before in
+    omega (arith, at-expand .expand .kept .1 .1 .1 .1 .1 .1 .1 .1 .0, at-loop .loop .inv .1 .forked .tests-long, start .pre .3 .forked .tests-long)
 
 same-length-3 : tie.Need-same-length-3 Inv-loop μ-loop
 same-length-3 c =
-    let expand = c .before .before .before .before .before .before .before .before .before .before .before .before .before .before .before .before .before .before .before .before .before .before .before .expand in
-    let loop = c .before .before .before .before .before .before .before .before .before .before .before .before .before .before .before .before .before .before .before .before .before .before .before .before .before .before .before .before .before .before .before .before .before .before .before .loop in
-    let pre = c .before .before .before .before .before .before .before .before .before .before .before .before .before .before .before .before .before .before .before .before .before .before .before .before .before .before .before .before .before .before .before .before .before .before .before .before .before .before .before .before .before .before .before .before .before .before .before .before .before .pre in
-    let expand = expand in let loop = loop in let pre = pre in omega (arith, expand .kept .1 .1 .1 .1 .1 .1 .1 .1 .1 .0, loop .inv .1 .forked .forks-long, pre .3 .forked .forks-long)
+    let at-expand = c .before .before .before .before .before .before .before .before .before .before .before .before .before .before .before .before .before .before .before .before .before .before .before in
+    let at-loop = at-expand .before .before .before .before .before .before .before .before .before .before .before .before in
+    let start = at-loop .before .before .before .before .before .before .before .before .before .before .before .before .before .before .before .before .before .before .before in
+    omega (arith, at-expand .expand .kept .1 .1 .1 .1 .1 .1 .1 .1 .1 .0, at-loop .loop .inv .1 .forked .forks-long, start .pre .3 .forked .forks-long)
 
 same-length-4 : tie.Need-same-length-4 Inv-loop μ-loop
 same-length-4 c =
-    let expand = c .before .before .before .before .before .before .before .before .before .before .before .before .before .before .before .before .before .before .before .before .before .before .before .expand in
-    let loop = c .before .before .before .before .before .before .before .before .before .before .before .before .before .before .before .before .before .before .before .before .before .before .before .before .before .before .before .before .before .before .before .before .before .before .before .loop in
-    let pre = c .before .before .before .before .before .before .before .before .before .before .before .before .before .before .before .before .before .before .before .before .before .before .before .before .before .before .before .before .before .before .before .before .before .before .before .before .before .before .before .before .before .before .before .before .before .before .before .before .before .pre in
-    let expand = expand in let loop = loop in let pre = pre in omega (arith, expand .kept .1 .1 .1 .1 .1 .1 .1 .1 .1 .1 .1 .0, staged-sizes (loop .inv .0) .starts-long, staged-sizes (pre .2) .starts-long)
+    let at-expand = c .before .before .before .before .before .before .before .before .before .before .before .before .before .before .before .before .before .before .before .before .before .before .before in
+    let at-loop = at-expand .before .before .before .before .before .before .before .before .before .before .before .before in
+    let start = at-loop .before .before .before .before .before .before .before .before .before .before .before .before .before .before .before .before .before .before .before in
+    omega (arith, at-expand .expand .kept .1 .1 .1 .1 .1 .1 .1 .1 .1 .1 .1 .0, staged-sizes (at-loop .loop .inv .0) .starts-long, staged-sizes (start .pre .2) .starts-long)
 
 same-length-5 : tie.Need-same-length-5 Inv-loop μ-loop
 same-length-5 c =
-    let expand = c .before .before .before .before .before .before .before .before .before .before .before .before .before .before .before .before .before .before .before .before .before .before .before .expand in
-    let loop = c .before .before .before .before .before .before .before .before .before .before .before .before .before .before .before .before .before .before .before .before .before .before .before .before .before .before .before .before .before .before .before .before .before .before .before .loop in
-    let pre = c .before .before .before .before .before .before .before .before .before .before .before .before .before .before .before .before .before .before .before .before .before .before .before .before .before .before .before .before .before .before .before .before .before .before .before .before .before .before .before .before .before .before .before .before .before .before .before .before .before .pre in
-    let expand = expand in let loop = loop in let pre = pre in omega (arith, expand .kept .1 .1 .1 .1 .1 .1 .1 .1 .1 .1 .1 .1 .0, staged-sizes (loop .inv .0) .successors-long, staged-sizes (pre .2) .successors-long)
+    let at-expand = c .before .before .before .before .before .before .before .before .before .before .before .before .before .before .before .before .before .before .before .before .before .before .before in
+    let at-loop = at-expand .before .before .before .before .before .before .before .before .before .before .before .before in
+    let start = at-loop .before .before .before .before .before .before .before .before .before .before .before .before .before .before .before .before .before .before .before in
+    omega (arith, at-expand .expand .kept .1 .1 .1 .1 .1 .1 .1 .1 .1 .1 .1 .1 .0, staged-sizes (at-loop .loop .inv .0) .successors-long, staged-sizes (start .pre .2) .successors-long)
 
 same-length-6 : tie.Need-same-length-6 Inv-loop μ-loop
 same-length-6 c =
-    let expand = c .before .before .before .before .before .before .before .before .before .before .before .before .before .before .before .before .before .before .before .before .before .before .before .expand in
-    let loop = c .before .before .before .before .before .before .before .before .before .before .before .before .before .before .before .before .before .before .before .before .before .before .before .before .before .before .before .before .before .before .before .before .before .before .before .loop in
-    let pre = c .before .before .before .before .before .before .before .before .before .before .before .before .before .before .before .before .before .before .before .before .before .before .before .before .before .before .before .before .before .before .before .before .before .before .before .before .before .before .before .before .before .before .before .before .before .before .before .before .before .pre in
-    let expand = expand in let loop = loop in let pre = pre in omega (arith, expand .kept .1 .1 .1 .1 .1 .1 .1 .1 .1 .1 .1 .1 .1 .1 .0, staged-sizes (loop .inv .0) .counts-long, staged-sizes (pre .2) .counts-long)
+    let at-expand = c .before .before .before .before .before .before .before .before .before .before .before .before .before .before .before .before .before .before .before .before .before .before .before in
+    let at-loop = at-expand .before .before .before .before .before .before .before .before .before .before .before .before in
+    let start = at-loop .before .before .before .before .before .before .before .before .before .before .before .before .before .before .before .before .before .before .before in
+    omega (arith, at-expand .expand .kept .1 .1 .1 .1 .1 .1 .1 .1 .1 .1 .1 .1 .1 .1 .0, staged-sizes (at-loop .loop .inv .0) .counts-long, staged-sizes (start .pre .2) .counts-long)
 
 same-length-7 : tie.Need-same-length-7 Inv-loop μ-loop
 same-length-7 c =
-    let expand = c .before .before .before .before .before .before .before .before .before .before .before .before .before .before .before .before .before .before .before .before .before .before .before .expand in
-    let loop = c .before .before .before .before .before .before .before .before .before .before .before .before .before .before .before .before .before .before .before .before .before .before .before .before .before .before .before .before .before .before .before .before .before .before .before .loop in
-    let pre = c .before .before .before .before .before .before .before .before .before .before .before .before .before .before .before .before .before .before .before .before .before .before .before .before .before .before .before .before .before .before .before .before .before .before .before .before .before .before .before .before .before .before .before .before .before .before .before .before .before .pre in
-    let expand = expand in let loop = loop in let pre = pre in omega (arith, expand .kept .1 .1 .1 .1 .1 .1 .1 .1 .1 .1 .1 .1 .1 .1 .1 .0, staged-sizes (loop .inv .0) .views-long, staged-sizes (pre .2) .views-long)
+    let at-expand = c .before .before .before .before .before .before .before .before .before .before .before .before .before .before .before .before .before .before .before .before .before .before .before in
+    let at-loop = at-expand .before .before .before .before .before .before .before .before .before .before .before .before in
+    let start = at-loop .before .before .before .before .before .before .before .before .before .before .before .before .before .before .before .before .before .before .before in
+    omega (arith, at-expand .expand .kept .1 .1 .1 .1 .1 .1 .1 .1 .1 .1 .1 .1 .1 .1 .1 .0, staged-sizes (at-loop .loop .inv .0) .views-long, staged-sizes (start .pre .2) .views-long)
 
 same-length-8 : tie.Need-same-length-8 Inv-loop μ-loop
 same-length-8 c =
-    let expand = c .before .before .before .before .before .before .before .before .before .before .before .before .before .before .before .before .before .before .before .before .before .before .before .expand in
-    let loop = c .before .before .before .before .before .before .before .before .before .before .before .before .before .before .before .before .before .before .before .before .before .before .before .before .before .before .before .before .before .before .before .before .before .before .before .loop in
-    let expand = expand in let loop = loop in omega (arith, expand .kept .1 .1 .1 .1 .1 .1 .1 .1 .1 .1 .1 .1 .1 .1 .1 .1 .0, loop .inv .3)
+    let at-expand = c .before .before .before .before .before .before .before .before .before .before .before .before .before .before .before .before .before .before .before .before .before .before .before in
+    let at-loop = at-expand .before .before .before .before .before .before .before .before .before .before .before .before in
+    let start = at-loop .before .before .before .before .before .before .before .before .before .before .before .before .before .before .before .before .before .before .before in
+    omega (arith, at-expand .expand .kept .1 .1 .1 .1 .1 .1 .1 .1 .1 .1 .1 .1 .1 .1 .1 .1 .1 .1 .1 .1 .1 .1 .0, at-loop .loop .inv .2, start .pre .6)
 
 same-length-9 : tie.Need-same-length-9 Inv-loop μ-loop
 same-length-9 c =
-    let expand = c .before .before .before .before .before .before .before .before .before .before .before .before .before .before .before .before .before .before .before .before .before .before .before .expand in
-    let loop = c .before .before .before .before .before .before .before .before .before .before .before .before .before .before .before .before .before .before .before .before .before .before .before .before .before .before .before .before .before .before .before .before .before .before .before .loop in
-    let expand = expand in let loop = loop in omega (arith, expand .kept .1 .1 .1 .1 .1 .1 .1 .1 .1 .1 .1 .1 .1 .1 .1 .1 .1 .0, loop .inv .4)
+    let at-expand = c .before .before .before .before .before .before .before .before .before .before .before .before .before .before .before .before .before .before .before .before .before .before .before in
+    let start = at-expand .before .before .before .before .before .before .before .before .before .before .before .before .before .before .before .before .before .before .before .before .before .before .before .before .before .before .before .before .before .before .before in
+    at-expand .expand .ensures .1 .asked-long ∙ sym (start .pre .7 .asked-long)
 
 same-length-10 : tie.Need-same-length-10 Inv-loop μ-loop
 same-length-10 c =
-    let expand = c .before .before .before .before .before .before .before .before .before .before .before .before .before .before .before .before .before .before .before .before .before .before .before .expand in
-    let loop = c .before .before .before .before .before .before .before .before .before .before .before .before .before .before .before .before .before .before .before .before .before .before .before .before .before .before .before .before .before .before .before .before .before .before .before .loop in
-    let pre = c .before .before .before .before .before .before .before .before .before .before .before .before .before .before .before .before .before .before .before .before .before .before .before .before .before .before .before .before .before .before .before .before .before .before .before .before .before .before .before .before .before .before .before .before .before .before .before .before .before .pre in
-    let expand = expand in let loop = loop in let pre = pre in omega (arith, expand .kept .1 .1 .1 .1 .1 .1 .1 .1 .1 .1 .1 .1 .1 .1 .1 .1 .1 .1 .0, loop .inv .5, pre .7)
+    let at-expand = c .before .before .before .before .before .before .before .before .before .before .before .before .before .before .before .before .before .before .before .before .before .before .before in
+    let start = at-expand .before .before .before .before .before .before .before .before .before .before .before .before .before .before .before .before .before .before .before .before .before .before .before .before .before .before .before .before .before .before .before in
+    at-expand .expand .ensures .1 .places-long ∙ sym (start .pre .7 .places-long)
 
 returns : tie.Need-returns Inv-loop μ-loop
 returns c =
-    let expand = c .before .before .before .before .before .before .before .before .before .before .before .before .before .before .before .before .before .before .before .before .before .before .before .expand in
-    let expand = expand in stopped _ _ _ _ _ _ _ _ _ _ _ _ (expand .ensures) (c .before .step2 .given .1)
+    let at-expand = c .before .before .before .before .before .before .before .before .before .before .before .before .before .before .before .before .before .before .before .before .before .before .before in
+    stopped _ _ _ _ _ _ _ _ _ _ _ _ (at-expand .expand .ensures .0) (c .before .step2 .given .1)
 
 add-k : tie.Need-add-k Inv-loop μ-loop
 add-k c =
-    let loop = c .before .before .before .before .before .before .before .before .before .before .before .before .before .before .before .before .before .before .before .before .before .before .before .before .before .before .before .before .before .before .before .before .before .before .before .loop in
-    let loop = loop in omega (arith, loop .inv .0 .states-hold .room)
+    let at-loop = c .before .before .before .before .before .before .before .before .before .before .before .before .before .before .before .before .before .before .before .before .before .before .before .before .before .before .before .before .before .before .before .before .before .before .before in
+    omega (arith, at-loop .loop .inv .0 .states-hold .room)
 
 loop-less : tie.Need-loop-less Inv-loop μ-loop
 loop-less c =
-    let loop-test = c .before .before .before .before .before .before .before .before .before .before .before .before .before .before .before .before .before .before .before .before .before .before .before .before .before .before .before .before .before .before .before .before .before .before .loop-test in
-    let loop = c .before .before .before .before .before .before .before .before .before .before .before .before .before .before .before .before .before .before .before .before .before .before .before .before .before .before .before .before .before .before .before .before .before .before .before .loop in
-    let loop-test = loop-test in let loop = loop in omega (arith, loop-test .taken, loop .inv .0 .states-hold .room)
+    let at-loop-test = c .before .before .before .before .before .before .before .before .before .before .before .before .before .before .before .before .before .before .before .before .before .before .before .before .before .before .before .before .before .before .before .before .before .before in
+    let at-loop = at-loop-test .before in
+    omega (arith, at-loop-test .loop-test .taken, at-loop .loop .inv .0 .states-hold .room)
 
 loop-again : tie.Need-loop-again Inv-loop μ-loop
 loop-again c =
-    let expand = c .before .before .before .before .before .before .before .before .before .before .before .before .before .before .before .before .before .before .before .before .before .before .before .expand in
-    let loop = c .before .before .before .before .before .before .before .before .before .before .before .before .before .before .before .before .before .before .before .before .before .before .before .before .before .before .before .before .before .before .before .before .before .before .before .loop in
-    let expand = expand in let loop = loop in let on = went-on _ _ _ _ _ _ _ _ _ _ _ _ (expand .ensures) (c .before .step .given .1) in let kept = expand .kept .1 .1 .1 .1 .1 .1 .1 .1 .1 .1 .1 .1 .1 .1 .1 .1 .0 in (on .0, on .1, omega (arith, loop .inv .2), omega (arith, loop .inv .3), omega (arith, expand .kept .1 .1 .1 .1 .1 .1 .1 .1 .1 .1 .1 .1 .1 .1 .1 .1 .1 .0, loop .inv .4), omega (arith, expand .kept .1 .1 .1 .1 .1 .1 .1 .1 .1 .1 .1 .1 .1 .1 .1 .1 .1 .1 .0, loop .inv .5))
+    let at-expand = c .before .before .before .before .before .before .before .before .before .before .before .before .before .before .before .before .before .before .before .before .before .before .before in
+    let at-loop = at-expand .before .before .before .before .before .before .before .before .before .before .before .before in
+    let on = went-on _ _ _ _ _ _ _ _ _ _ _ _ (at-expand .expand .ensures .0) (c .before .step .given .1) in (on .0, on .1, omega (arith, at-expand .expand .kept .1 .1 .1 .1 .1 .1 .1 .1 .1 .1 .1 .1 .1 .1 .1 .1 .1 .1 .1 .1 .1 .1 .0, at-loop .loop .inv .2), at-expand .expand .ensures .1)
 
 same-length-11 : tie.Need-same-length-11 Inv-loop μ-loop
 same-length-11 c =
-    let pre = c .before .before .before .before .before .before .before .before .before .before .before .before .before .before .before .pre in
-    let pre = pre in omega (arith, staged-sizes (c .before .loop .inv .0) .states-long, staged-sizes (pre .2) .states-long)
+    let start = c .before .before .before .before .before .before .before .before .before .before .before .before .before .before .before .before .before .before .before .before in
+    omega (arith, staged-sizes (c .before .loop .inv .0) .states-long, staged-sizes (start .pre .2) .states-long)
 
 same-length-12 : tie.Need-same-length-12 Inv-loop μ-loop
 same-length-12 c =
-    let pre = c .before .before .before .before .before .before .before .before .before .before .before .before .before .before .before .pre in
-    let pre = pre in omega (arith, c .before .loop .inv .1 .forked .tests-long, pre .3 .forked .tests-long)
+    let start = c .before .before .before .before .before .before .before .before .before .before .before .before .before .before .before .before .before .before .before .before in
+    omega (arith, c .before .loop .inv .1 .forked .tests-long, start .pre .3 .forked .tests-long)
 
 same-length-13 : tie.Need-same-length-13 Inv-loop μ-loop
 same-length-13 c =
-    let pre = c .before .before .before .before .before .before .before .before .before .before .before .before .before .before .before .pre in
-    let pre = pre in omega (arith, c .before .loop .inv .1 .forked .forks-long, pre .3 .forked .forks-long)
+    let start = c .before .before .before .before .before .before .before .before .before .before .before .before .before .before .before .before .before .before .before .before in
+    omega (arith, c .before .loop .inv .1 .forked .forks-long, start .pre .3 .forked .forks-long)
 
 same-length-14 : tie.Need-same-length-14 Inv-loop μ-loop
 same-length-14 c =
-    let pre = c .before .before .before .before .before .before .before .before .before .before .before .before .before .before .before .pre in
-    let pre = pre in omega (arith, staged-sizes (c .before .loop .inv .0) .starts-long, staged-sizes (pre .2) .starts-long)
+    let start = c .before .before .before .before .before .before .before .before .before .before .before .before .before .before .before .before .before .before .before .before in
+    omega (arith, staged-sizes (c .before .loop .inv .0) .starts-long, staged-sizes (start .pre .2) .starts-long)
 
 same-length-15 : tie.Need-same-length-15 Inv-loop μ-loop
 same-length-15 c =
-    let pre = c .before .before .before .before .before .before .before .before .before .before .before .before .before .before .before .pre in
-    let pre = pre in omega (arith, staged-sizes (c .before .loop .inv .0) .successors-long, staged-sizes (pre .2) .successors-long)
+    let start = c .before .before .before .before .before .before .before .before .before .before .before .before .before .before .before .before .before .before .before .before in
+    omega (arith, staged-sizes (c .before .loop .inv .0) .successors-long, staged-sizes (start .pre .2) .successors-long)
 
 same-length-16 : tie.Need-same-length-16 Inv-loop μ-loop
 same-length-16 c =
-    let pre = c .before .before .before .before .before .before .before .before .before .before .before .before .before .before .before .pre in
-    let pre = pre in omega (arith, staged-sizes (c .before .loop .inv .0) .counts-long, staged-sizes (pre .2) .counts-long)
+    let start = c .before .before .before .before .before .before .before .before .before .before .before .before .before .before .before .before .before .before .before .before in
+    omega (arith, staged-sizes (c .before .loop .inv .0) .counts-long, staged-sizes (start .pre .2) .counts-long)
 
 same-length-17 : tie.Need-same-length-17 Inv-loop μ-loop
 same-length-17 c =
-    let pre = c .before .before .before .before .before .before .before .before .before .before .before .before .before .before .before .pre in
-    let pre = pre in omega (arith, staged-sizes (c .before .loop .inv .0) .views-long, staged-sizes (pre .2) .views-long)
+    let start = c .before .before .before .before .before .before .before .before .before .before .before .before .before .before .before .before .before .before .before .before in
+    omega (arith, staged-sizes (c .before .loop .inv .0) .views-long, staged-sizes (start .pre .2) .views-long)
 
 same-length-18 : tie.Need-same-length-18 Inv-loop μ-loop
-same-length-18 c = c .before .loop .inv .3
+same-length-18 c =
+    let start = c .before .before .before .before .before .before .before .before .before .before .before .before .before .before .before .before .before .before .before .before in
+    omega (arith, c .before .loop .inv .2, start .pre .6)
 
 same-length-19 : tie.Need-same-length-19 Inv-loop μ-loop
-same-length-19 c = c .before .loop .inv .4
+same-length-19 c =
+    let start = c .before .before .before .before .before .before .before .before .before .before .before .before .before .before .before .before .before .before .before .before in
+    c .before .loop .inv .3 .asked-long ∙ sym (start .pre .7 .asked-long)
 
 same-length-20 : tie.Need-same-length-20 Inv-loop μ-loop
 same-length-20 c =
-    let pre = c .before .before .before .before .before .before .before .before .before .before .before .before .before .before .before .pre in
-    let pre = pre in omega (arith, c .before .loop .inv .5, pre .7)
+    let start = c .before .before .before .before .before .before .before .before .before .before .before .before .before .before .before .before .before .before .before .before in
+    c .before .loop .inv .3 .places-long ∙ sym (start .pre .7 .places-long)
 
 returns-2 : tie.Need-returns-2 Inv-loop μ-loop
 returns-2 c = done _ _ _ _ (c .before .loop .inv .0) (c .loop-test .left)

@@ -1,0 +1,2 @@
+-- What the contracts of `keys` cite.
+pub mod Keys

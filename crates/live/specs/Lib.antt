@@ -1,2 +1,0 @@
--- What the contracts of `live` cite.
-pub mod Live
