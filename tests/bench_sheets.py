@@ -1,6 +1,7 @@
 """The benchmark sheets: seven families, each at four growing sizes.  Every
 sheet comes with the state count and joint move count it must have."""
 
+import itertools
 import os
 import random
 
@@ -116,19 +117,29 @@ def many_rules(width, rules_wanted):
     return join([sz(3, 1, 0, 16), *rules, *nodes, ED]), 2, 2 * width[0] * width[1] * width[2]
 
 
-def waiting_rules(width, rules_wanted):
-    """One state of many joint moves, and many NEXT rules that all wait for the
-    last of four roles, which has two moves: the worst that was found for an
-    engine that finds the successors for all moves of the last role at once.
-    Rules and joint moves grow together."""
+def waiting_rules(width, rules_wanted, kinds):
+    """One state of many joint moves, and many NEXT rules that wait for moves of
+    the roles of a kind, one kind after the other.  Rules and joint moves grow
+    together."""
     rng = random.Random(rules_wanted)
     rules = [ru(INIT, 0), ru(NEXT, 0)]
     rules += [ru(LEGAL, role, m) for role in range(4) for m in range(width[role])]
     rules += [x for role in range(4) for x in name_moves(role, range(width[role]))]
-    while len(rules) < rules_wanted:
-        rules.append(ru(NEXT, 0, 0, (DOES, 3, rng.randrange(width[3]))))
+    for kind in itertools.cycle(kinds):
+        if len(rules) >= rules_wanted:
+            break
+        rules.append(ru(NEXT, 0, 0, *[(DOES, role, rng.randrange(width[role])) for role in kind]))
     nodes = [fo(N_FACT, 0), fo(N_EVENTUALLY, 0, 0, 1)]
     return join([sz(4, 1, 0, 16), *rules, *nodes, ED]), 1, width[0] * width[1] * width[2] * width[3]
+
+
+# All rules wait for the last role, which has two moves: the worst that was found
+# for an engine that finds the successors for all moves of one role at once.
+LAST_ROLE = [(3,)]
+
+# Every set of roles is named by some rule: the worst that was found for an
+# engine that looks up each set of roles by itself.
+ALL_KINDS = [kind for count in range(1, 5) for kind in itertools.combinations(range(4), count)]
 
 
 def nested(nodes_wanted):
@@ -187,7 +198,9 @@ def families():
     for width, rules in (((8, 8, 8), 64), ((16, 8, 8), 128), ((16, 16, 8), 256), ((16, 16, 16), 512)):
         yield ("many-rules", 2 * width[0] * width[1] * width[2]) + many_rules(width, rules)
     for width, rules in (((8, 8, 8, 2), 64), ((16, 8, 8, 2), 128), ((16, 16, 8, 2), 256), ((16, 16, 16, 2), 512)):
-        yield ("waiting-rules", width[0] * width[1] * width[2] * width[3]) + waiting_rules(width, rules)
+        yield ("waiting-rules", width[0] * width[1] * width[2] * width[3]) + waiting_rules(width, rules, LAST_ROLE)
+    for width, rules in (((8, 8, 8, 2), 64), ((16, 8, 8, 2), 128), ((16, 16, 8, 2), 256), ((16, 16, 16, 2), 512)):
+        yield ("all-kinds", width[0] * width[1] * width[2] * width[3]) + waiting_rules(width, rules, ALL_KINDS)
 
 
 def write_all(directory):

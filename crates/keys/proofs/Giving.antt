@@ -1,14 +1,13 @@
 -- What the gifts have for a joint move is what the live slots give: a slot's moves are made where its home is the place of a key that is looked up.
 use Prim.Native.Nat.{ℕ, zero, suc, _+_, _≤_, _<_}
-use mathlib.Core.Path.{_≡_, refl, sym, ap, ap₂, _∙_, subst}
+use mathlib.Core.Path.{_≡_, refl, sym, ap, ap₂, _∙_}
 use mathlib.Core.Bool.{Bool, true, false, cond, _||_, false≢true}
 use mathlib.Core.Logic.{_⊎_, inl, inr, ⊎-elim}
 use mathlib.Core.List.{List, [], _∷_, _++_}
-use native.Mathlib.Nat.{eq-or-lt-of-le}
 use native.Mathlib.Omega.{arith}
-use borrow.Author.Tests.{eqb-true, eq-eqb, ltb-true}
+use borrow.Author.Tests.{eqb-true, eq-eqb}
 use lib.Bits.{bitAnd, bitOr}
-use lib.Dec.{eqb, ltb}
+use lib.Dec.{eqb}
 use lib.ListN.{getD, length, take, length-append, List·getD-append}
 use lib.Seq.{getD-at}
 use Rattle.facts.specs.Bits.{bit, insert}
@@ -17,13 +16,10 @@ use Rattle.facts.specs.Sets.{_⊆_, same-set, le-or-lt}
 use Rattle.facts.specs.Truth.{same-test, or-left, or-right, or-split}
 use Rattle.rules.specs.Rules.{over}
 use Rattle.meaning.specs.Lists.{place}
-use Rattle.meaning.specs.Filling.{grown}
-use Rattle.meaning.proofs.Explore.{place-in}
-use Rattle.meaning.proofs.Filling.{place-stays, place-end, grown-place, grown-more}
-use Rattle.lookup.proofs.Place.{place-le, place-here}
+use Rattle.lookup.proofs.Place.{place-le}
 use Rattle.codes.specs.Codes.{calm, stirs, jointOf}
 use Rattle.codes.specs.Table.{setsIn, memberIn}
-use Rattle.keys.specs.Keys.{alive, tested, pickedBy, nextBy, kindOf, maskOf, keyOf, needIn, keysOf, maskAt, kindsOf, Filing, Gathered, placeAt, given}
+use Rattle.keys.specs.Keys.{alive, tested, pickedBy, nextBy, kindOf, keyOf, needIn, keysOf, Filing, Gathered, placeAt, given}
 use Rattle.keys.proofs.Homing.{up-to, place-injective, home-inside, mask-there, kind-below}
 use Rattle.keys.proofs.Mixing.{key-injective}
 use Rattle.keys.proofs.Parts.{kind-low, part-is}
@@ -109,8 +105,8 @@ meet-covered x y = same-set _ _ (λ i. omega (arith, bit-and y (bitAnd x y) i, b
 covered-part : (x y : ℕ) → bitAnd y x ≡ x → x ⊆ y
 covered-part x y e i h = omega (arith, h, bit-and y x i, ap (λ (z : ℕ). bit z i) e)
 
-module _ {code : List ℕ} {to : ℕ} {keys tests forks : List ℕ} {n : ℕ} {homes masks : List ℕ} {kinds : ℕ}
-    (f : Filing code to keys tests forks n homes masks kinds) (m : List ℕ) where
+module _ {code : List ℕ} {to : ℕ} {keys tests forks hints : List ℕ} {n : ℕ} {homes masks : List ℕ} {kinds : ℕ}
+    (f : Filing code to keys tests forks hints n homes masks kinds) (m : List ℕ) where
   -- The place of the key that is looked up for a kind.
   abbrev found : ℕ → ℕ
   found = placeAt (take n keys) masks (jointOf m)
@@ -141,10 +137,10 @@ module _ {code : List ℕ} {to : ℕ} {keys tests forks : List ℕ} {n : ℕ} {h
       eq-eqb (bitAnd (jointOf m) d) d (ap (bitAnd (jointOf m)) same ∙ meet-covered (getD masks k 0) (jointOf m) ∙ sym same)
 
 -- THE theorem: what the gifts have for a joint move, over all kinds, is what the slots give.
-pub given-next : {code : List ℕ} {to : ℕ} {keys tests forks : List ℕ} {n : ℕ} {homes masks : List ℕ} {kinds : ℕ} {l gifts : List ℕ}
-    → Filing code to keys tests forks n homes masks kinds → Gathered code homes n l gifts → ((j : ℕ) → j < length l → getD l j 0 < to)
+pub given-next : {code : List ℕ} {to : ℕ} {keys tests forks hints : List ℕ} {n : ℕ} {homes masks : List ℕ} {kinds : ℕ} {l gifts : List ℕ}
+    → Filing code to keys tests forks hints n homes masks kinds → Gathered code homes n l gifts → ((j : ℕ) → j < length l → getD l j 0 < to)
     → (m : List ℕ) → given (take n keys) masks gifts (jointOf m) kinds ≡ nextBy code (jointOf m) l
-given-next {code} {to} {keys} {tests} {forks} {n} {homes} {masks} {kinds} {l} f g below m =
+given-next {code} {to} {keys} {tests} {forks} {hints} {n} {homes} {masks} {kinds} {l} f g below m =
     given-hit (take n keys) masks g (omega (arith, f .count, ap length (f .keys-are))) (jointOf m) kinds
     ∙ picked-same code (hit homes (found f m) kinds) (λ c. stirs (setsIn code c) (jointOf m)) l
     (λ j k. same-test _ _ (hit-made f m (getD l j 0) (below j k)) (made-hit f m (getD l j 0) (below j k)))

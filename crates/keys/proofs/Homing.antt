@@ -1,5 +1,5 @@
 -- The slots are filed: each slot's key is among the keys, and its place there is the slot's home; the laws of the loop that files them.
-use Prim.Native.Nat.{ℕ, zero, suc, _+_, _≤_, _<_, max}
+use Prim.Native.Nat.{ℕ, zero, suc, _+_, _%_, _≤_, _<_, max}
 use mathlib.Core.Path.{_≡_, refl, sym, ap, ap₂, _∙_, subst}
 use mathlib.Core.Bool.{Bool, true, false, cond}
 use mathlib.Core.Logic.{⊎-elim}
@@ -9,7 +9,7 @@ use native.Mathlib.Numerals.{add-one}
 use native.Mathlib.Omega.{arith}
 use borrow.Author.Tests.{eqb-true, eqb-false, eq-eqb, ltb-true}
 use lib.Dec.{eqb, ltb}
-use lib.ListN.{getD, length, take, set, replicate, length-append, length-set}
+use lib.ListN.{getD, length, take, set, replicate, length-append, length-set, length-replicate}
 use lib.Seq.{getD-set-same, getD-set-other}
 use Rattle.tables.specs.Lengths.{stateLimit}
 use Rattle.sheet.specs.Limits.{mostRules}
@@ -20,7 +20,7 @@ use Rattle.meaning.proofs.Filling.{place-stays, place-end, grown-place, grown-m
 use Rattle.lookup.specs.Tree.{linkLimit}
 use Rattle.lookup.proofs.Place.{place-le, place-here}
 use Rattle.lookup.proofs.Enrolling.{treed-first}
-use Rattle.keys.specs.Keys.{kindRoom, keyRoom, kindOf, maskOf, keyOf, needIn, keysOf, maskAt, kindsOf, upperStirred, lowerStirred, Housed, Filing, Memo}
+use Rattle.keys.specs.Keys.{kindRoom, keyRoom, kindOf, maskOf, keyOf, needIn, keysOf, maskAt, kindsOf, upperStirred, lowerStirred, hintRoom, Hinted, Housed, Filing, Memo}
 use Rattle.keys.proofs.Parts.{kind-low}
 
 -- ---- places in a list that grows
@@ -110,12 +110,25 @@ zero-at zero k = refl
 zero-at (suc n) zero = refl
 zero-at (suc n) (suc k) = zero-at n k
 
+-- The first key has its hint.
+first-hint : Hinted (0 ∷ []) (set (replicate hintRoom 0) 0 1)
+first-hint = record { there = λ i h. there i; low = low; hints-long = length-set {A = ℕ} (replicate hintRoom 0) 0 1 ∙ length-replicate {A = ℕ} hintRoom 0 }
+  where
+    there : (i : ℕ) → _≡_ {A = ℕ} (getD (set (replicate hintRoom 0) 0 1) (getD (0 ∷ []) i 0 % hintRoom) 0) 0 → ⊥
+    there zero z = omega arith
+    there (suc i) z = omega arith
+
+    low : (h : ℕ) → getD {A = ℕ} (set (replicate hintRoom 0) 0 1) h 0 ≤ 1
+    low zero = omega arith
+    low (suc h) = omega (arith, zero-at hintRoom (suc h))
+
 -- Nothing is filed in empty tables.
-pub filing-start : (code : List ℕ) {keys tests forks homes masks : List ℕ} → keys ≡ replicate keyRoom 0 → tests ≡ replicate stateLimit 0 → forks ≡ replicate linkLimit 0
-    → homes ≡ replicate mostRules 0 → masks ≡ replicate kindRoom 0 → Filing code 0 keys tests forks 1 homes masks 0
+pub filing-start : (code : List ℕ) {keys tests forks hints homes masks : List ℕ} → keys ≡ replicate keyRoom 0 → tests ≡ replicate stateLimit 0 → forks ≡ replicate linkLimit 0
+    → hints ≡ replicate hintRoom 0 → homes ≡ replicate mostRules 0 → masks ≡ replicate kindRoom 0 → Filing code 0 keys tests forks (set hints 0 1) 1 homes masks 0
 unfolding keysOf maskAt kindsOf
-filing-start code k t f h m = rw (k, t, f, h, m) record {
+filing-start code k t f g h m = rw (k, t, f, g, h, m) record {
   tree = treed-first (replicate keyRoom 0) (omega arith);
+  hinted = first-hint;
   keys-are = refl;
   count = refl;
   homes-are = λ i l. absurd (omega arith);
@@ -126,22 +139,23 @@ filing-start code k t f h m = rw (k, t, f, h, m) record {
   masks-long = refl;
 }
 
-module _ {code : List ℕ} {c : ℕ} {keys tests forks : List ℕ} {n : ℕ} {homes masks : List ℕ} {kinds : ℕ} (f : Filing code c keys tests forks n homes masks kinds) where
+module _ {code : List ℕ} {c : ℕ} {keys tests forks hints : List ℕ} {n : ℕ} {homes masks : List ℕ} {kinds : ℕ} (f : Filing code c keys tests forks hints n homes masks kinds) where
   -- The end.
-  pub filing-end : {to : ℕ} → c ≤ to → to ≤ c → Filing code to keys tests forks n homes masks kinds
-  filing-end {to} g h = let e : c ≡ to = omega arith in subst (λ (i : ℕ). Filing code i keys tests forks n homes masks kinds) e f
+  pub filing-end : {to : ℕ} → c ≤ to → to ≤ c → Filing code to keys tests forks hints n homes masks kinds
+  filing-end {to} g h = let e : c ≡ to = omega arith in subst (λ (i : ℕ). Filing code i keys tests forks hints n homes masks kinds) e f
 
   -- There is room for a key more.
   pub filing-room : n ≤ c + 1
   filing-room = omega (arith, f .count, keys-few code c)
 
   -- One slot more.
-  pub filing-on : {d key kind mask more kinds′ : ℕ} {keys′ tests′ forks′ homes′ : List ℕ} → c < mostRules → d ≡ needIn code c → kind ≡ kindOf d → mask ≡ maskOf kind → kinds′ ≡ max kinds (kind + 1)
-      → key ≡ keyOf d → Housed n key c keys homes more keys′ tests′ forks′ homes′ → Filing code (c + 1) keys′ tests′ forks′ more homes′ (set masks kind mask) kinds′
+  pub filing-on : {d key kind mask more kinds′ : ℕ} {keys′ tests′ forks′ hints′ homes′ : List ℕ} → c < mostRules → d ≡ needIn code c → kind ≡ kindOf d → mask ≡ maskOf kind → kinds′ ≡ max kinds (kind + 1)
+      → key ≡ keyOf d → Housed n key c keys homes more keys′ tests′ forks′ hints′ homes′ → Filing code (c + 1) keys′ tests′ forks′ hints′ more homes′ (set masks kind mask) kinds′
   unfolding keysOf maskAt kindsOf
-  filing-on {d} {key} {kind} {mask} {more} {kinds′} {keys′} {tests′} {forks′} {homes′} room p q r s v h =
-      subst (λ (i : ℕ). Filing code i keys′ tests′ forks′ more homes′ (set masks kind mask) kinds′) (sym (add-one c)) record {
+  filing-on {d} {key} {kind} {mask} {more} {kinds′} {keys′} {tests′} {forks′} {hints′} {homes′} room p q r s v h =
+      subst (λ (i : ℕ). Filing code i keys′ tests′ forks′ hints′ more homes′ (set masks kind mask) kinds′) (sym (add-one c)) record {
         tree = h .tree;
+        hinted = h .hinted;
         keys-are = h .keys-are ∙ grown-is;
         count = h .count ∙ ap length grown-is;
         homes-are = λ i l. ap (λ (t : List ℕ). getD t i 0) (h .homes-are) ∙ home i l;
@@ -206,7 +220,7 @@ first-place code (suc c) =
     some (suc c) = omega (arith, some c, length-grown (keyOf (needIn code c)) (keysOf code c) .0)
 
 -- Empty tables remember the first key.
-pub memo-start : {code : List ℕ} {c : ℕ} {keys tests forks : List ℕ} {n : ℕ} {homes masks : List ℕ} {kinds : ℕ} {asked places : List ℕ} → Filing code c keys tests forks n homes masks kinds
+pub memo-start : {code : List ℕ} {c : ℕ} {keys tests forks hints : List ℕ} {n : ℕ} {homes masks : List ℕ} {kinds : ℕ} {asked places : List ℕ} → Filing code c keys tests forks hints n homes masks kinds
     → asked ≡ replicate kindRoom 0 → places ≡ replicate kindRoom 0 → Memo (take n keys) asked places
 unfolding keyOf upperStirred lowerStirred
 memo-start {code} {c} {keys} {n = n} f a p = rw (a, p) record {

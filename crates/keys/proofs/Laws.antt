@@ -1,24 +1,27 @@
 -- The laws of the functions of `keys`: one for each way that the code returns, and those of its loops.
-use Prim.Native.Nat.{ℕ, zero, suc, _+_, _*_, _%_, _^_, _≤_, _<_}
+use Prim.Native.Nat.{ℕ, _+_, _*_, _%_, _≤_, _<_}
 use mathlib.Core.Path.{_≡_, refl, sym, ap, ap₂, _∙_, subst}
 use mathlib.Core.Bool.{Bool, true, false, cond}
+use mathlib.Core.Logic.{_⊎_, inl, inr, ⊎-elim}
 use mathlib.Core.List.{List, [], _∷_, _++_, append-nil}
 use native.Mathlib.Numerals.{add-one}
 use native.Mathlib.Omega.{arith}
 use lib.Bits.{bitAnd, bitOr}
 use lib.Dec.{eqb}
-use lib.ListN.{getD, length, take, set, length-set, length-append}
-use lib.Seq.{take-suc-set, length-take-le, getD-set-same, getD-set-other}
+use lib.ListN.{getD, length, take, set, length-set, length-append, List·getD-append}
+use lib.Seq.{take-suc-set, length-take-le, getD-set-same, getD-set-other, getD-at}
 use borrow.Author.Tests.{eq-eqb, ne-eqb, eqb-true, eqb-false, lt-ltb, le-ltb}
 use Rattle.facts.specs.Bits.{has, insert}
+use Rattle.facts.specs.Sets.{le-or-lt}
 use Rattle.rules.specs.Rules.{over}
 use Rattle.meaning.specs.Lists.{place}
 use Rattle.meaning.specs.Filling.{grown}
 use Rattle.lookup.specs.Tree.{Treed, Enrolled}
-use Rattle.lookup.proofs.Place.{place-le}
+use Rattle.lookup.proofs.Place.{place-le, place-here}
+use Rattle.lookup.proofs.Seeking.{place-own}
 use Rattle.codes.specs.Codes.{calm, madeBy, jointOf}
 use Rattle.codes.specs.Table.{setsIn, memberIn}
-use Rattle.keys.specs.Keys.{alive, tested, pickedBy, mostRoles, kindRoom, ownMoves, namedIn, movesIn, keyOf, Housed, Wiped, giftOf, Gathered, placeAt, given, Memo}
+use Rattle.keys.specs.Keys.{alive, tested, pickedBy, mostRoles, kindRoom, ownMoves, namedIn, movesIn, keyOf, hintRoom, Hinted, Housed, giftRoom, Wiped, giftOf, Gathered, given, Memo}
 
 -- ---- sets of moves
 -- A move below 16 stands at its role's place, another nowhere.
@@ -90,23 +93,83 @@ keys-count {keys} {n = n} t = length-take-le n keys (t .inside)
 pub at-low : (key : ℕ) {keys tests forks : List ℕ} {n at : ℕ} → Treed keys n tests forks → at ≡ place key (take n keys) → at ≤ n
 at-low key {keys} {n = n} t e = omega (arith, place-le key (take n keys), keys-count t)
 
-module _ {keys tests forks : List ℕ} {n at : ℕ} (key : ℕ) (homes : List ℕ) (c : ℕ) (t : Treed keys n tests forks) (e : at ≡ place key (take n keys)) where
+-- Where there is no hint, there is no such key.
+pub find-none : (key : ℕ) {keys tests forks hints : List ℕ} {n low hint : ℕ} → Treed keys n tests forks → Hinted (take n keys) hints → low ≡ key % hintRoom → hint ≡ getD hints low 0 → hint ≡ 0
+    → n ≡ place key (take n keys)
+find-none key {keys} {hints = hints} {n} t f p e z = ⊎-elim
+    (λ h. omega (arith, place-le key (take n keys), keys-count t))
+    (λ h.
+    let inside : place key (take n keys) < length (take n keys) = omega (arith, keys-count t) in
+    absurd (f .there (place key (take n keys)) inside (ap (λ (x : ℕ). getD hints (x % hintRoom) 0) (place-here key (take n keys) inside) ∙ sym (ap (λ (i : ℕ). getD hints i 0) p) ∙ sym e ∙ z)))
+    (le-or-lt n (place key (take n keys)))
+
+-- A hint names a key.
+pub hint-low : {keys tests forks hints : List ℕ} {n hint : ℕ} (h : ℕ) → Treed keys n tests forks → Hinted (take n keys) hints → hint ≡ getD hints h 0 → hint ≤ n
+hint-low h t f e = omega (arith, f .low h, keys-count t)
+
+-- If it is the one that is looked for, its place is found.
+pub find-here : (key : ℕ) {keys tests forks : List ℕ} {n at : ℕ} → Treed keys n tests forks → at < n → getD keys at 0 ≡ key → at ≡ place key (take n keys)
+find-here key {keys} {n = n} {at} t h e = sym (ap (λ (x : ℕ). place x (take n keys)) (sym e) ∙ place-own t at h)
+
+-- One hint more.
+hinted-more : {keys hints : List ℕ} (key : ℕ) → Hinted keys hints → Hinted (keys ++ (key ∷ [])) (set hints (key % hintRoom) (length keys + 1))
+hinted-more {keys} {hints} key f = record {
+  there = λ i h. there i h (le-or-lt (length keys) i);
+  low = λ h. low h (eqb h at) refl;
+  hints-long = length-set hints at more ∙ f .hints-long;
+}
+  where
+    at : ℕ
+    at = key % hintRoom
+
+    more : ℕ
+    more = length keys + 1
+
+    room : at < length hints
+    room = omega (arith, f .hints-long)
+
+    -- A hint that is there stays there.
+    still : (h : ℕ) (t : Bool) → eqb h at ≡ t → (getD hints h 0 ≡ 0 → ⊥) → getD (set hints at more) h 0 ≡ 0 → ⊥
+    still h true q n z = omega (arith, ap (λ (i : ℕ). getD (set hints at more) i 0) (sym (eqb-true h at q)), getD-set-same hints at more 0 room)
+    still h false q n z = n (sym (getD-set-other hints at h more 0 (eqb-false h at q)) ∙ z)
+
+    there : (i : ℕ) → i < length (keys ++ (key ∷ [])) → (length keys ≤ i) ⊎ (i < length keys) → getD (set hints at more) (getD (keys ++ (key ∷ [])) i 0 % hintRoom) 0 ≡ 0 → ⊥
+    there i h (inl l) z =
+        let e : length keys ≡ i = omega (arith, length-append keys (key ∷ [])) in
+        omega (arith, getD-set-same hints at more 0 room, ap (λ (x : ℕ). getD (set hints at more) (x % hintRoom) 0) (sym (getD-at keys key [] 0 i e)))
+    there i h (inr l) z =
+        let same : getD (keys ++ (key ∷ [])) i 0 ≡ getD keys i 0 = List·getD-append keys (key ∷ []) 0 i l in
+        let h : ℕ = getD keys i 0 % hintRoom in
+        still h (eqb h at) refl (f .there i l) (ap (λ (x : ℕ). getD (set hints at more) (x % hintRoom) 0) (sym same) ∙ z)
+
+    low : (h : ℕ) (t : Bool) → eqb h at ≡ t → getD (set hints at more) h 0 ≤ length (keys ++ (key ∷ []))
+    low h true q =
+        omega (arith, ap (λ (i : ℕ). getD (set hints at more) i 0) (eqb-true h at q), getD-set-same hints at more 0 room, length-append keys (key ∷ []))
+    low h false q = omega (arith, getD-set-other hints at h more 0 (eqb-false h at q), f .low h, length-append keys (key ∷ []))
+
+module _ {keys tests forks hints : List ℕ} {n at : ℕ} (key : ℕ) (homes : List ℕ) (c : ℕ) (t : Treed keys n tests forks) (f : Hinted (take n keys) hints) (e : at ≡ place key (take n keys)) where
   -- The key is known.
-  pub housed-old : at < n → Housed n key c keys homes n keys tests forks (set homes c at)
+  pub housed-old : at < n → Housed n key c keys homes n keys tests forks hints (set homes c at)
   housed-old h =
       let same : take n keys ≡ grown (take n keys) key =
       sym (ap (λ (b : Bool). cond b (take n keys) (take n keys ++ (key ∷ []))) (lt-ltb (place key (take n keys)) (length (take n keys)) (omega (arith, keys-count t)))) in
-      record { keys-are = same; count = sym (keys-count t) ∙ ap length same; tree = t; homes-are = ap (set homes c) e; keys-long = refl }
+      record { keys-are = same; count = sym (keys-count t) ∙ ap length same; tree = t; hinted = f; homes-are = ap (set homes c) e; keys-long = refl }
 
   -- It is new.
-  pub housed-new : {tests′ forks′ : List ℕ} → n ≤ at → n < length keys → Enrolled keys n key tests′ forks′ → Housed n key c keys homes (n + 1) (set keys n key) tests′ forks′ (set homes c at)
-  housed-new h room tree =
+  pub housed-new : {tests′ forks′ : List ℕ} {low hint : ℕ} → n ≤ at → n < length keys → Enrolled keys n key tests′ forks′ → low ≡ key % hintRoom → hint ≡ n + 1
+      → Housed n key c keys homes (n + 1) (set keys n key) tests′ forks′ (set hints low hint) (set homes c at)
+  housed-new {low = low} {hint} h room tree p q =
       let more : take n keys ++ (key ∷ []) ≡ grown (take n keys) key =
       sym (ap (λ (b : Bool). cond b (take n keys) (take n keys ++ (key ∷ []))) (le-ltb (place key (take n keys)) (length (take n keys)) (omega (arith, keys-count t)))) in
+      let taken : take (n + 1) (set keys n key) ≡ take n keys ++ (key ∷ []) = ap (λ (i : ℕ). take i (set keys n key)) (add-one n) ∙ take-suc-set keys n key room in
+      let hint-is : length (take n keys) + 1 ≡ hint = omega (arith, keys-count t) in
       record {
-        keys-are = ap (λ (i : ℕ). take i (set keys n key)) (add-one n) ∙ take-suc-set keys n key room ∙ more;
+        keys-are = taken ∙ more;
         count = omega (arith, keys-count t, length-append (take n keys) (key ∷ []), ap length more);
         tree = tree (set keys n key) (omega (arith, length-set keys n key)) (λ i q. getD-set-other keys n i key 0 (λ e. omega arith)) (getD-set-same keys n key 0 room);
+        hinted = subst (λ (l : List ℕ). Hinted l (set hints low hint)) (sym taken)
+            (subst (λ (i : ℕ). Hinted (take n keys ++ (key ∷ [])) (set hints i hint)) (sym p)
+            (subst (λ (v : ℕ). Hinted (take n keys ++ (key ∷ [])) (set hints (key % hintRoom) v)) hint-is (hinted-more key f)));
         homes-are = ap (set homes c) e;
         keys-long = length-set keys n key;
       }
@@ -139,7 +202,7 @@ picked-snoc p code l c = over-append (tested p code) l (c ∷ []) 0
 
 module _ (code homes : List ℕ) (n facts views : ℕ) where
   -- No slot has given anything.
-  pub gathered-start : {gifts : List ℕ} → Wiped n gifts → length gifts ≡ 514 → Gathered code homes n (alive code facts views 0) gifts
+  pub gathered-start : {gifts : List ℕ} → Wiped n gifts → length gifts ≡ giftRoom → Gathered code homes n (alive code facts views 0) gifts
   unfolding alive pickedBy
   gathered-start w h = record { gifts-are = w; gifts-long = h }
 

@@ -5,7 +5,7 @@ use mathlib.Core.Path.{_≡_}
 use mathlib.Core.Bool.{Bool, cond}
 use mathlib.Core.List.{List, [], _∷_, _++_}
 use lib.Bits.{bitAnd, bitOr, bitXor}
-use lib.Dec.{eqb, ltb}
+use lib.Dec.{eqb}
 use lib.ListN.{getD, length, take, set}
 use Rattle.facts.specs.Bits.{has, insert}
 use Rattle.sheet.specs.Limits.{mostMoves, mostRules}
@@ -113,17 +113,29 @@ keyRoom = 513
 abbrev pub giftRoom : ℕ
 giftRoom = 514
 
+-- How many hints there are.
+abbrev pub hintRoom : ℕ
+hintRoom = 2048
+
+-- Hints by the low digits of a key: one more than the place of a key that has these digits; there is one for each key.
+pub record Hinted (keys hints : List ℕ) : Type 0 where
+  pub there : (i : ℕ) → i < length keys → getD hints (getD keys i 0 % hintRoom) 0 ≡ 0 → ⊥
+  pub low : (h : ℕ) → getD hints h 0 ≤ length keys
+  pub hints-long : length hints ≡ hintRoom
+
 -- A key more, if it is new: the first r entries are the keys then, and its place is noted in entry c.
-pub record Housed (n key c : ℕ) (keys homes : List ℕ) (r : ℕ) (keys′ tests′ forks′ homes′ : List ℕ) : Type 0 where
+pub record Housed (n key c : ℕ) (keys homes : List ℕ) (r : ℕ) (keys′ tests′ forks′ hints′ homes′ : List ℕ) : Type 0 where
   pub keys-are : take r keys′ ≡ grown (take n keys) key
   pub count : r ≡ length (grown (take n keys) key)
   pub tree : Treed keys′ r tests′ forks′
+  pub hinted : Hinted (take r keys′) hints′
   pub homes-are : homes′ ≡ set homes c (place key (take n keys))
   pub keys-long : length keys′ ≡ length keys
 
 -- The first n entries of the table of keys are the keys of the slots below c, each slot's home is the place of its key, and each kind has its mask.
-pub record Filing (code : List ℕ) (c : ℕ) (keys tests forks : List ℕ) (n : ℕ) (homes masks : List ℕ) (kinds : ℕ) : Type 0 where
+pub record Filing (code : List ℕ) (c : ℕ) (keys tests forks hints : List ℕ) (n : ℕ) (homes masks : List ℕ) (kinds : ℕ) : Type 0 where
   pub tree : Treed keys n tests forks
+  pub hinted : Hinted (take n keys) hints
   pub keys-are : take n keys ≡ keysOf code c
   pub count : n ≡ length (keysOf code c)
   pub homes-are : (i : ℕ) → i < c → getD homes i 0 ≡ place (keyOf (needIn code i)) (keysOf code c)

@@ -1,6 +1,6 @@
 // Successors by keys: what the rules give is gathered once a position, by the moves that they wait for, and looked up for each joint move.
 ghost use mathlib.Core.Path.{_≡_};
-ghost use Prim.Native.Nat.{ℕ, _+_, _*_, _≤_, _<_, max};
+ghost use Prim.Native.Nat.{ℕ, _+_, _*_, _%_, _≤_, _<_, max};
 ghost use lib.ListN.{length, take, replicate, getD};
 ghost use Rattle.tables.specs.Lengths.{stateLimit};
 ghost use Rattle.sheet.specs.Limits.{mostRules};
@@ -8,7 +8,7 @@ ghost use Rattle.meaning.specs.Lists.{place};
 ghost use Rattle.lookup.specs.Tree.{linkLimit, Treed};
 ghost use Rattle.codes.specs.Codes.{bits, madeBy, jointOf};
 ghost use Rattle.codes.specs.Table.{width, memberIn};
-ghost use Rattle.keys.specs.Keys.{ownMoves, kindOf, maskOf, upperStirred, lowerStirred, keyOf, keyRoom, kindRoom, giftRoom, Housed, Filing, alive, Gathered, Homes, Wiped, given, Memo};
+ghost use Rattle.keys.specs.Keys.{ownMoves, kindOf, maskOf, upperStirred, lowerStirred, keyOf, keyRoom, kindRoom, giftRoom, hintRoom, Hinted, Housed, Filing, alive, Gathered, Homes, Wiped, given, Memo};
 use facts::FactSet;
 use firing::calm_at;
 use firing::with_member;
@@ -23,6 +23,9 @@ pub const KEY_ROOM: usize = 513;
 
 // How many gifts there may be: one of each key, and one of what has no key.
 pub const GIFT_ROOM: usize = 514;
+
+// How many hints there are.
+pub const HINT_ROOM: usize = 2048;
 
 // How many kinds of rules there are, by the roles that they name.
 pub const KIND_ROOM: usize = 16;
@@ -140,6 +143,30 @@ fn key_of(d: u64) -> u64
 
 // ---- once a sheet
 
+// The low digits of a key.
+fn low_of(key: u64) -> usize
+    ensures { λ r. ⌜ r ≡ key % hintRoom ⌝ }
+{
+    (key % 2048) as usize
+}
+
+// The place of a key among the first n, or n. Mostly a hint tells: there is none where no key has these low digits.
+fn find(keys: &[u64], tests: &[u8], forks: &[u16], hints: &[u16], n: usize, key: u64) -> usize
+    requires { ⌜ Treed (now keys) n (now tests) (now forks) × Hinted (take n (now keys)) (now hints) ⌝ }
+    ensures { λ r. ⌜ r ≡ place key (take n (now (keys .entry))) ⌝ }
+{
+    let low = low_of(key);
+    let hint = index(hints[low]);
+    if hint == 0 {
+        return n;
+    }
+    let at = hint - 1;
+    if keys[at] == key {
+        return at;
+    }
+    seek(keys, tests, forks, n, key)
+}
+
 // A key more, if it is new, and its place noted in entry c. The answer is how many keys there are then.
 fn house(
     keys: &mut [u64],
@@ -149,17 +176,21 @@ fn house(
     key: u64,
     homes: &mut [u16],
     c: usize,
+    hints: &mut [u16],
 ) -> usize
-    requires { ⌜ Treed (now keys) n (now tests) (now forks) × (n < length (now keys)) × (n < stateLimit) × (c < length (now homes)) ⌝ }
-    ensures { λ r. ⌜ Housed n key c (now (keys .entry)) (now (homes .entry)) r (now (keys .exit)) (now (tests .exit)) (now (forks .exit)) (now (homes .exit)) ⌝ }
+    requires { ⌜ Treed (now keys) n (now tests) (now forks) × (n < length (now keys)) × (n < stateLimit) × (c < length (now homes))
+        × Hinted (take n (now keys)) (now hints) ⌝ }
+    ensures { λ r. ⌜ Housed n key c (now (keys .entry)) (now (homes .entry)) r (now (keys .exit)) (now (tests .exit)) (now (forks .exit)) (now (hints .exit)) (now (homes .exit)) ⌝ }
 {
-    let at = seek(keys, tests, forks, n, key);
+    let at = find(keys, tests, forks, hints, n, key);
     homes[c] = at as u16;
     if at < n {
         return n;
     }
     enroll(keys, tests, forks, n, key);
     keys[n] = key;
+    let low = low_of(key);
+    hints[low] = (n + 1) as u16;
     n + 1
 }
 
@@ -180,20 +211,21 @@ fn file_slot(
     keys: &mut [u64],
     tests: &mut [u8],
     forks: &mut [u16],
+    hints: &mut [u16],
     homes: &mut [u16],
     masks: &mut [u64],
     filed: Filed,
 ) -> Filed
     requires { ⌜ (width * (c + 1) ≤ length (now code)) × (c < mostRules)
-        × Filing (now code) c (now keys) (now tests) (now forks) (filed .keys) (now homes) (now masks) (filed .kinds) ⌝ }
-    ensures { λ r. ⌜ Filing (now (code .entry)) (c + 1) (now (keys .exit)) (now (tests .exit)) (now (forks .exit)) (r .keys) (now (homes .exit)) (now (masks .exit)) (r .kinds) ⌝ }
+        × Filing (now code) c (now keys) (now tests) (now forks) (now hints) (filed .keys) (now homes) (now masks) (filed .kinds) ⌝ }
+    ensures { λ r. ⌜ Filing (now (code .entry)) (c + 1) (now (keys .exit)) (now (tests .exit)) (now (forks .exit)) (now (hints .exit)) (r .keys) (now (homes .exit)) (now (masks .exit)) (r .kinds) ⌝ }
 {
     let d = code[6 * c + 4];
     let kind = kind_of(d);
     let k = kind as usize;
     masks[k] = mask_of(kind);
     let kinds = greater(filed.kinds, k + 1);
-    let n = house(keys, tests, forks, filed.keys, key_of(d), homes, c);
+    let n = house(keys, tests, forks, filed.keys, key_of(d), homes, c, hints);
     Filed { keys: n, kinds }
 }
 
@@ -204,17 +236,19 @@ pub fn file(
     keys: &mut [u64],
     tests: &mut [u8],
     forks: &mut [u16],
+    hints: &mut [u16],
     homes: &mut [u16],
     masks: &mut [u64],
 ) -> Filed
     requires { ⌜ (width * to ≤ length (now code)) × (to ≤ mostRules) × (now keys ≡ replicate keyRoom 0) × (now tests ≡ replicate stateLimit 0) × (now forks ≡ replicate linkLimit 0)
-        × (now homes ≡ replicate mostRules 0) × (now masks ≡ replicate kindRoom 0) ⌝ }
-    ensures { λ r. ⌜ Filing (now (code .entry)) to (now (keys .exit)) (now (tests .exit)) (now (forks .exit)) (r .keys) (now (homes .exit)) (now (masks .exit)) (r .kinds) ⌝ }
+        × (now hints ≡ replicate hintRoom 0) × (now homes ≡ replicate mostRules 0) × (now masks ≡ replicate kindRoom 0) ⌝ }
+    ensures { λ r. ⌜ Filing (now (code .entry)) to (now (keys .exit)) (now (tests .exit)) (now (forks .exit)) (now (hints .exit)) (r .keys) (now (homes .exit)) (now (masks .exit)) (r .kinds) ⌝ }
 {
+    hints[0] = 1;
     let mut filed = Filed { keys: 1, kinds: 0 };
     let mut c: usize = 0;
     while c < to {
-        filed = file_slot(code, c, keys, tests, forks, homes, masks, filed);
+        filed = file_slot(code, c, keys, tests, forks, hints, homes, masks, filed);
         c += 1;
     }
     filed
@@ -274,19 +308,20 @@ fn recall(
     keys: &[u64],
     tests: &[u8],
     forks: &[u16],
+    hints: &[u16],
     n: usize,
     part: u64,
     k: usize,
     asked: &mut [u64],
     places: &mut [u16],
 ) -> usize
-    requires { ⌜ Treed (now keys) n (now tests) (now forks) × (k < kindRoom) × Memo (take n (now keys)) (now asked) (now places) ⌝ }
+    requires { ⌜ Treed (now keys) n (now tests) (now forks) × Hinted (take n (now keys)) (now hints) × (k < kindRoom) × Memo (take n (now keys)) (now asked) (now places) ⌝ }
     ensures { λ r. ⌜ (r ≡ place (keyOf part) (take n (now (keys .entry)))) × Memo (take n (now (keys .entry))) (now (asked .exit)) (now (places .exit)) ⌝ }
 {
     if asked[k] == part {
         return index(places[k]);
     }
-    let at = seek(keys, tests, forks, n, key_of(part));
+    let at = find(keys, tests, forks, hints, n, key_of(part));
     asked[k] = part;
     places[k] = at as u16;
     at
@@ -297,6 +332,7 @@ pub fn give(
     keys: &[u64],
     tests: &[u8],
     forks: &[u16],
+    hints: &[u16],
     filed: Filed,
     masks: &[u64],
     gifts: &[u64],
@@ -304,7 +340,7 @@ pub fn give(
     asked: &mut [u64],
     places: &mut [u16],
 ) -> u64
-    requires { ⌜ Treed (now keys) (filed .keys) (now tests) (now forks) × (filed .kinds ≤ kindRoom) × (length (now masks) ≡ kindRoom) × (filed .keys < length (now gifts))
+    requires { ⌜ Treed (now keys) (filed .keys) (now tests) (now forks) × Hinted (take (filed .keys) (now keys)) (now hints) × (filed .kinds ≤ kindRoom) × (length (now masks) ≡ kindRoom) × (filed .keys < length (now gifts))
         × Memo (take (filed .keys) (now keys)) (now asked) (now places) ⌝ }
     ensures { λ r. ⌜ (r ≡ given (take (filed .keys) (now (keys .entry))) (now (masks .entry)) (now (gifts .entry)) joint (filed .kinds))
         × Memo (take (filed .keys) (now (keys .entry))) (now (asked .exit)) (now (places .exit)) ⌝ }
@@ -315,7 +351,7 @@ pub fn give(
     let mut k: usize = 0;
     while k < kinds {
         let part = masks[k] & joint;
-        let at = recall(keys, tests, forks, n, part, k, asked, places);
+        let at = recall(keys, tests, forks, hints, n, part, k, asked, places);
         x = x | gifts[at];
         k += 1;
     }

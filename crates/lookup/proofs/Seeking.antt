@@ -1,13 +1,13 @@
 -- A number is found by its way: only the entry where it ends can be that number.
 use Prim.Native.Nat.{ℕ, _≤_, _<_}
-use mathlib.Core.Path.{_≡_, sym, _∙_, subst}
+use mathlib.Core.Path.{_≡_, refl, sym, _∙_, subst}
 use mathlib.Core.List.{List}
 use native.Mathlib.Omega.{arith}
 use lib.ListN.{length, getD, take, length-take}
 use lib.Seq.{getD-take}
 use Rattle.meaning.specs.Lists.{place}
 use Rattle.lookup.specs.Tree.{factLimit, Way, Lands, Treed}
-use Rattle.lookup.proofs.Ways.{lands-in, lands-once}
+use Rattle.lookup.proofs.Ways.{entry-stops, lands-in, lands-once}
 use Rattle.lookup.proofs.Place.{place-le, place-here, place-first}
 
 module _ {table : List ℕ} {n : ℕ} {tests forks : List ℕ} (t : Treed table n tests forks) {x c : ℕ} (l : Lands tests forks x c) where
@@ -40,3 +40,7 @@ module _ {table : List ℕ} {n : ℕ} {tests forks : List ℕ} (t : Treed table 
   -- a number that is none of the first n is not that entry
   pub another : n ≤ place x (take n table) → getD table c 0 ≡ x → ⊥
   another none e = omega (arith, hit e, lands-in (t .forked) l)
+
+-- each entry has its own place
+pub place-own : {table : List ℕ} {n : ℕ} {tests forks : List ℕ} → Treed table n tests forks → (i : ℕ) → i < n → place (getD table i 0) (take n table) ≡ i
+place-own t i b = let (r, w, s) = t .ends i b in sym (hit t (r, (w, entry-stops (t .forked) r factLimit b s), sym s) refl)

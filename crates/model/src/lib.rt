@@ -19,6 +19,7 @@ use codes::compile;
 use firing::end_at;
 use keys::Filed;
 use keys::GIFT_ROOM;
+use keys::HINT_ROOM;
 use keys::KEY_ROOM;
 use keys::KIND_ROOM;
 use keys::RULE_ROOM;
@@ -98,6 +99,7 @@ fn list_targets(
     keys: &[u64],
     probes: &[u8],
     links: &[u16],
+    hints: &[u16],
     filed: Filed,
     kinds: &[u64],
     gifts: &[u64],
@@ -112,7 +114,7 @@ fn list_targets(
     places: &mut [u16],
 ) -> Listing
     requires { ⌜ Whole (now s) y × (m ≡ jointsOf o (y .sizes .roles)) × Clean stateLimit (now states) n × Treed (now states) n (now tests) (now forks)
-        × Clean moveLimit (now successors) at × (at + m ≤ moveLimit) × Serves (sheetIn (now s) y) o (now keys) (now probes) (now links) filed (now kinds) (now gifts)
+        × Clean moveLimit (now successors) at × (at + m ≤ moveLimit) × Serves (sheetIn (now s) y) o (now keys) (now probes) (now links) (now hints) filed (now kinds) (now gifts)
         × Memo (take (filed .keys) (now keys)) (now asked) (now places) ⌝ }
     ensures { λ r. ⌜ Listed stateLimit moveLimit (take n (now (states .entry))) (take at (now (successors .entry))) (tabulate m (targetOf (sheetIn (now (s .entry)) y) o))
         r (now (states .exit)) (now (tests .exit)) (now (forks .exit)) (now (successors .exit)) (at + m)
@@ -128,6 +130,7 @@ fn list_targets(
             keys,
             probes,
             links,
+            hints,
             filed,
             kinds,
             gifts,
@@ -193,6 +196,7 @@ fn expand(
     keys: &[u64],
     probes: &[u8],
     links: &[u16],
+    hints: &[u16],
     filed: Filed,
     kinds: &[u64],
     gifts: &mut [u64],
@@ -202,7 +206,7 @@ fn expand(
     requires { ⌜ Whole (now s) y × Studied (sheetIn (now s) y) (now masks) moves × (k < n)
         × Stage (rulesOf (sheetIn (now s) y)) (viewsOf (sheetIn (now s) y)) stateLimit moveLimit k (now states) n (now starts) (now successors) at (now counts) (now views)
         × Treed (now states) n (now tests) (now forks)
-        × Coded (sheetIn (now s) y) (now masks) (now code) (now ends) × Filing (now code) (getD (now ends) 0 0) (now keys) (now probes) (now links) (filed .keys) (now homes) (now kinds) (filed .kinds)
+        × Coded (sheetIn (now s) y) (now masks) (now code) (now ends) × Filing (now code) (getD (now ends) 0 0) (now keys) (now probes) (now links) (now hints) (filed .keys) (now homes) (now kinds) (filed .kinds)
         × (length (now gifts) ≡ giftRoom) × Memo (take (filed .keys) (now keys)) (now asked) (now places) ⌝ }
     ensures { λ r. ⌜ Expanded (rulesOf (sheetIn (now (s .entry)) y)) (viewsOf (sheetIn (now (s .entry)) y)) stateLimit moveLimit k r
         (now (states .exit)) (now (tests .exit)) (now (forks .exit)) (now (starts .exit)) (now (successors .exit)) (now (counts .exit)) (now (views .exit))
@@ -229,6 +233,7 @@ fn expand(
         keys,
         probes,
         links,
+        hints,
         filed,
         kinds,
         gifts,
@@ -267,6 +272,7 @@ fn explore(
     keys: &[u64],
     probes: &[u8],
     links: &[u16],
+    hints: &[u16],
     filed: Filed,
     kinds: &[u64],
     gifts: &mut [u64],
@@ -276,7 +282,7 @@ fn explore(
     requires { ⌜ Whole (now s) y × Studied (sheetIn (now s) y) (now masks) moves
         × Stage (rulesOf (sheetIn (now s) y)) (viewsOf (sheetIn (now s) y)) stateLimit moveLimit 0 (now states) 1 (now starts) (now successors) 0 (now counts) (now views)
         × Treed (now states) 1 (now tests) (now forks)
-        × Coded (sheetIn (now s) y) (now masks) (now code) (now ends) × Filing (now code) (getD (now ends) 0 0) (now keys) (now probes) (now links) (filed .keys) (now homes) (now kinds) (filed .kinds)
+        × Coded (sheetIn (now s) y) (now masks) (now code) (now ends) × Filing (now code) (getD (now ends) 0 0) (now keys) (now probes) (now links) (now hints) (filed .keys) (now homes) (now kinds) (filed .kinds)
         × (length (now gifts) ≡ giftRoom) × Memo (take (filed .keys) (now keys)) (now asked) (now places) ⌝ }
     ensures { λ r. ⌜ Explored (rulesOf (sheetIn (now (s .entry)) y)) (viewsOf (sheetIn (now (s .entry)) y)) stateLimit moveLimit r
         (now (states .exit)) (now (starts .exit)) (now (successors .exit)) (now (counts .exit)) (now (views .exit)) ⌝ }
@@ -306,6 +312,7 @@ fn explore(
             keys,
             probes,
             links,
+            hints,
             filed,
             kinds,
             gifts,
@@ -373,6 +380,7 @@ pub fn build(
     let mut keys = [0u64; KEY_ROOM];
     let mut probes = [0u8; STATE_LIMIT];
     let mut links = [0u16; LINK_LIMIT];
+    let mut hints = [0u16; HINT_ROOM];
     let mut homes = [0u16; RULE_ROOM];
     let mut kinds = [0u64; KIND_ROOM];
     let next = end_at(&ends, 0);
@@ -382,6 +390,7 @@ pub fn build(
         &mut keys,
         &mut probes,
         &mut links,
+        &mut hints,
         &mut homes,
         &mut kinds,
     );
@@ -406,6 +415,7 @@ pub fn build(
         &keys,
         &probes,
         &links,
+        &hints,
         filed,
         &kinds,
         &mut gifts,

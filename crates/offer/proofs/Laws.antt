@@ -83,13 +83,13 @@ file-asks c s =
     (omega (arith, s .ends-long), inside, omega (arith, s .code-long))
 
 -- They are filed up to their end, as it was read.
-pub filing-to : {code keys tests forks : List ℕ} {n : ℕ} {homes masks : List ℕ} {kinds to end : ℕ} → to ≡ end → Filing code to keys tests forks n homes masks kinds
-    → Filing code end keys tests forks n homes masks kinds
+pub filing-to : {code keys tests forks hints : List ℕ} {n : ℕ} {homes masks : List ℕ} {kinds to end : ℕ} → to ≡ end → Filing code to keys tests forks hints n homes masks kinds
+    → Filing code end keys tests forks hints n homes masks kinds
 filing-to e f = rw e at f
 
 -- They are filed.
-module _ {d : Sheet} {masks code ends : List ℕ} (c : Coded d masks code ends) {keys tests forks homes kind-masks : List ℕ} {filed : Filed}
-    (f : Filing code (getD ends 0 0) keys tests forks (filed .keys) homes kind-masks (filed .kinds)) where
+module _ {d : Sheet} {masks code ends : List ℕ} (c : Coded d masks code ends) {keys tests forks hints homes kind-masks : List ℕ} {filed : Filed}
+    (f : Filing code (getD ends 0 0) keys tests forks hints (filed .keys) homes kind-masks (filed .kinds)) where
   -- there are no more of them than rules
   next-few : getD ends 0 0 ≤ mostRules
   next-few = file-asks (c .compiled) (c .sized) .2
@@ -109,9 +109,10 @@ module _ {d : Sheet} {masks code ends : List ℕ} (c : Coded d masks code ends) 
 
   -- what is gathered serves every joint move
   pub gathered-serves : Fits d → (o : Offer) {gifts : List ℕ} → Gathered code homes (filed .keys) (alive code (o .look .facts .bits) (o .look .views .bits) (getD ends 0 0)) gifts
-      → Serves d o keys tests forks filed kind-masks gifts
+      → Serves d o keys tests forks hints filed kind-masks gifts
   gathered-serves fit o g = record {
     tree = f .tree;
+    hinted = f .hinted;
     few = omega (arith, f .kinds-are, kinds-few code (getD ends 0 0));
     masks-long = f .masks-long;
     room = omega (arith, g .gifts-long, next-few, filing-room f);
@@ -142,8 +143,8 @@ module _ (o : Offer) where
   target-stays d j h e = e ∙ leads-stay (d .rules) (o .look) (four (decode (take (d .sizes .roles) (o .choices .sets)) j)) (o .choices .terminal) h
 
   -- else it goes by what is looked up
-  pub target-goes : (d : Sheet) (r j : ℕ) {t joint : ℕ} {m keys tests forks : List ℕ} {filed : Filed} {masks gifts : List ℕ} → o .choices .terminal ≡ false → r ≡ d .sizes .roles
-      → m ≡ four (decode (take r (o .choices .sets)) j) → Serves d o keys tests forks filed masks gifts → joint ≡ jointOf m
+  pub target-goes : (d : Sheet) (r j : ℕ) {t joint : ℕ} {m keys tests forks hints : List ℕ} {filed : Filed} {masks gifts : List ℕ} → o .choices .terminal ≡ false → r ≡ d .sizes .roles
+      → m ≡ four (decode (take r (o .choices .sets)) j) → Serves d o keys tests forks hints filed masks gifts → joint ≡ jointOf m
       → t ≡ given (take (filed .keys) keys) masks gifts joint (filed .kinds) → t ≡ targetOf d o j
   unfolding targetOf
   target-goes d r j {t} {joint} {m} {keys} {filed = filed} {masks} {gifts} h e f l g k =

@@ -15,7 +15,7 @@ use Rattle.rules.specs.Rules.{nextFacts}
 use Rattle.codes.specs.Codes.{jointOf}
 use Rattle.codes.specs.Table.{Compiled, Sized}
 use Rattle.lookup.specs.Tree.{Treed}
-use Rattle.keys.specs.Keys.{kindRoom, given}
+use Rattle.keys.specs.Keys.{kindRoom, Hinted, given}
 use Rattle.keys.specs.declared.Filed.{Filed}
 use Rattle.position.specs.Position.{still, lookIn, movesOf, offers, making, leads}
 use Rattle.offer.specs.declared.Offer.{Offer}
@@ -40,8 +40,9 @@ pub record Coded (d : Sheet) (masks code ends : List ℕ) : Type 0 where
   pub sized : Sized code ends
 
 -- The tables in which successors are looked up serve every joint move of the position: what they have is what the NEXT rules give.
-pub record Serves (d : Sheet) (o : Offer) (keys tests forks : List ℕ) (filed : Filed) (masks gifts : List ℕ) : Type 0 where
+pub record Serves (d : Sheet) (o : Offer) (keys tests forks hints : List ℕ) (filed : Filed) (masks gifts : List ℕ) : Type 0 where
   pub tree : Treed keys (filed .keys) tests forks
+  pub hinted : Hinted (take (filed .keys) keys) hints
   pub few : filed .kinds ≤ kindRoom
   pub masks-long : length masks ≡ kindRoom
   pub room : filed .keys < length gifts

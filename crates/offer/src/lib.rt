@@ -114,6 +114,7 @@ pub fn reach(
     keys: &[u64],
     tests: &[u8],
     forks: &[u16],
+    hints: &[u16],
     filed: Filed,
     masks: &[u64],
     gifts: &[u64],
@@ -121,7 +122,7 @@ pub fn reach(
     asked: &mut [u64],
     places: &mut [u16],
 ) -> u64
-    requires { ⌜ Whole (now s) y × (j < jointsOf o (y .sizes .roles)) × Serves (sheetIn (now s) y) o (now keys) (now tests) (now forks) filed (now masks) (now gifts)
+    requires { ⌜ Whole (now s) y × (j < jointsOf o (y .sizes .roles)) × Serves (sheetIn (now s) y) o (now keys) (now tests) (now forks) (now hints) filed (now masks) (now gifts)
         × Memo (take (filed .keys) (now keys)) (now asked) (now places) ⌝ }
     ensures { λ r. ⌜ (r ≡ targetOf (sheetIn (now (s .entry)) y) o j) × Memo (take (filed .keys) (now (keys .entry))) (now (asked .exit)) (now (places .exit)) ⌝ }
 {
@@ -139,6 +140,7 @@ pub fn reach(
         keys,
         tests,
         forks,
+        hints,
         filed,
         masks,
         gifts,

@@ -18,7 +18,7 @@ mul-d-2 c = search needs
 
 shared-slice-read-d : tie.Need-shared-slice-read-d
 shared-slice-read-d c =
-    let start = c .before .before .before .before .before .before .before in
+    let start = c .before .before .before .before .before .before .before .before in
     omega (arith, start .pre .0)
 
 kind-of-requires : tie.Need-kind-of-requires
@@ -32,7 +32,7 @@ mul-masks c = omega (arith, kind-under _ (c .before .kind-of .ensures))
 
 slice-write-masks : tie.Need-slice-write-masks
 slice-write-masks c =
-    let start = c .before .before .before .before .before .before .before .before .before in
+    let start = c .before .before .before .before .before .before .before .before .before .before in
     omega (arith, kind-under _ (c .before .kind-of .ensures), start .pre .2 .masks-long)
 
 add-greater : tie.Need-add-greater
@@ -46,8 +46,13 @@ key-of-requires c κs = search needs
 
 house-requires : tie.Need-house-requires
 house-requires c κs =
-    let start = c .before .before .before .before .before .before .before .before .before .before .before .before .before .before .before in
-    (start .pre .2 .tree, omega (arith, filing-room (start .pre .2), start .pre .2 .keys-long, start .pre .1), omega (arith, filing-room (start .pre .2), start .pre .1), omega (arith, start .pre .2 .homes-long, start .pre .1))
+    let start = c .before .before .before .before .before .before .before .before .before .before .before .before .before .before .before .before .before in (
+      start .pre .2 .tree,
+      omega (arith, filing-room (start .pre .2), start .pre .2 .keys-long, start .pre .1),
+      omega (arith, filing-room (start .pre .2), start .pre .1),
+      omega (arith, start .pre .2 .homes-long, start .pre .1),
+      start .pre .2 .hinted,
+    )
 
 same-length : tie.Need-same-length
 same-length c = search needs
@@ -64,14 +69,17 @@ same-length-4 c = search needs
 same-length-5 : tie.Need-same-length-5
 same-length-5 c = search needs
 
+same-length-6 : tie.Need-same-length-6
+same-length-6 c = search needs
+
 returns : tie.Need-returns
 returns c =
-    let at-house = c .before .before .before .before .before .before .before .before in
-    let at-key-of = at-house .before .before in
+    let at-house = c .before .before .before .before .before .before .before .before .before .before in
+    let at-key-of = at-house .before .before .before in
     let at-greater = at-key-of .before .before .before .before in
     let at-mask-of = at-greater .before in
     let at-kind-of = at-mask-of .before in
-    let start = at-kind-of .before .before .before .before .before .before .before .before in
+    let start = at-kind-of .before .before .before .before .before .before .before .before .before in
     filing-on (start .pre .2) (start .pre .1) refl (at-kind-of .kind-of .ensures) (at-mask-of .mask-of .ensures) (at-greater .greater .ensures) (at-key-of .key-of .ensures) (at-house .house .ensures)
 
 pub file-slot-spec : {M : Type 1} → statement M
@@ -95,4 +103,5 @@ file-slot-spec =
     same-length-3
     same-length-4
     same-length-5
+    same-length-6
     returns)

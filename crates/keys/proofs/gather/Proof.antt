@@ -27,8 +27,12 @@ loop-holds c =
 gather-slot-requires : tie.Need-gather-slot-requires Inv-loop μ-loop
 gather-slot-requires c κs =
     let at-loop-test = c .before in
-    let start = at-loop-test .before .before .before .before .before .before .before .before .before in
-    (omega (arith, start .pre .0 .inside, at-loop-test .loop-test .taken), start .pre .0 .members _ (at-loop-test .loop-test .taken), omega (arith, start .pre .0 .homes-long, at-loop-test .loop-test .taken), omega (arith, start .pre .0 .homes-low _ (at-loop-test .loop-test .taken), start .pre .0 .few, c .before .before .loop .inv .1 .gifts-long))
+    let start = at-loop-test .before .before .before .before .before .before .before .before .before in (
+      omega (arith, start .pre .0 .inside, at-loop-test .loop-test .taken),
+      start .pre .0 .members _ (at-loop-test .loop-test .taken),
+      omega (arith, start .pre .0 .homes-long, at-loop-test .loop-test .taken),
+      omega (arith, start .pre .0 .homes-low _ (at-loop-test .loop-test .taken), start .pre .0 .few, c .before .before .loop .inv .1 .gifts-long),
+    )
 
 add-c : tie.Need-add-c Inv-loop μ-loop
 add-c c = search needs

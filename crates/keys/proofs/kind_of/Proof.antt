@@ -37,8 +37,12 @@ loop-less c = search needs
 loop-again : tie.Need-loop-again Inv-loop μ-loop
 loop-again c =
     let at-loop = c .before .before .before in
-    let start = at-loop .before .before in
-    (omega arith, ⊎-elim (λ p. ap (λ (s : FactSet). s .bits) (p .2) ∙ named-on (start .args .d) (at-loop .loop .role) (c .before .own-moves .ensures) (at-loop .loop .inv .1) (p .0 .taken) (p .1 .ensures)) (λ p. ap (λ (s : FactSet). s .bits) (p .1) ∙ named-same (start .args .d) (at-loop .loop .role) (c .before .own-moves .ensures) (at-loop .loop .inv .1) (p .0 .left)) (c .if1 .came))
+    let start = at-loop .before .before in (
+      omega arith,
+      ⊎-elim
+          (λ p. ap (λ (s : FactSet). s .bits) (p .2) ∙ named-on (start .args .d) (at-loop .loop .role) (c .before .own-moves .ensures) (at-loop .loop .inv .1) (p .0 .taken) (p .1 .ensures))
+          (λ p. ap (λ (s : FactSet). s .bits) (p .1) ∙ named-same (start .args .d) (at-loop .loop .role) (c .before .own-moves .ensures) (at-loop .loop .inv .1) (p .0 .left)) (c .if1 .came),
+    )
 
 number-requires : tie.Need-number-requires Inv-loop μ-loop
 number-requires c κs = search needs

@@ -39,7 +39,13 @@ loop-again c =
     let at-loop = c .before .before .before in
     let at-of = at-loop .before in
     let start = at-of .before in
-    let on = c .before .has .ensures ∙ ap (λ (k : ℕ). has k (at-loop .loop .role)) (at-of .of .ensures) in (omega arith, ⊎-elim (λ p. p .2 ∙ moves-on (start .args .kind) (at-loop .loop .role) (at-loop .loop .inv .1) (p .1 .ensures) on (p .0 .taken)) (λ p. p .1 ∙ moves-same (start .args .kind) (at-loop .loop .role) (at-loop .loop .inv .1) on (p .0 .left)) (c .if1 .came))
+    let on = c .before .has .ensures ∙ ap (λ (k : ℕ). has k (at-loop .loop .role)) (at-of .of .ensures) in (
+      omega arith,
+      ⊎-elim
+          (λ p. p .2 ∙ moves-on (start .args .kind) (at-loop .loop .role) (at-loop .loop .inv .1) (p .1 .ensures) on (p .0 .taken))
+          (λ p. p .1 ∙ moves-same (start .args .kind) (at-loop .loop .role) (at-loop .loop .inv .1) on (p .0 .left))
+          (c .if1 .came),
+    )
 
 returns : tie.Need-returns Inv-loop μ-loop
 returns c = moves-end (c .before .before .before .args .kind) (c .before .loop .inv .0) (c .loop-test .left) (c .before .loop .inv .1)

@@ -26,14 +26,16 @@ index-requires c κs = search needs
 
 returns : tie.Need-returns
 returns c =
-    let start = c .before .before .before .before .before .before .before .before .before in
-    (recall-same (start .pre .2) (start .pre .1) (c .before .before .if1 .taken) (c .index .ensures), start .pre .2)
+    let start = c .before .before .before .before .before .before .before .before .before .before in
+    (recall-same (start .pre .3) (start .pre .2) (c .before .before .if1 .taken) (c .index .ensures), start .pre .3)
 
 key-of-requires : tie.Need-key-of-requires
 key-of-requires c κs = search needs
 
-seek-requires : tie.Need-seek-requires
-seek-requires c κs = search needs
+find-requires : tie.Need-find-requires
+find-requires c κs =
+    let start = c .before .before .before .before .before .before .before .before .before in
+    (start .pre .0, start .pre .1)
 
 mul-asked : tie.Need-mul-asked
 mul-asked c = search needs
@@ -43,8 +45,8 @@ slice-write-asked c = search needs
 
 cast-places : tie.Need-cast-places
 cast-places c =
-    let start = c .before .before .before .before .before .before .before .before .before in
-    omega (arith, at-low _ (start .pre .0) (c .seek .ensures), start .pre .0 .forked .room)
+    let start = c .before .before .before .before .before .before .before .before .before .before in
+    omega (arith, at-low _ (start .pre .0) (c .find .ensures), start .pre .0 .forked .room)
 
 mul-places : tie.Need-mul-places
 mul-places c = search needs
@@ -60,8 +62,10 @@ same-length-2 c = search needs
 
 returns-2 : tie.Need-returns-2
 returns-2 c =
-    let start = c .before .before .before .before .before .before .before .before .before in
-    (c .seek .ensures ∙ ap (λ (x : ℕ). place x (take (start .args .n) (start .args .keys .now))) (c .before .key-of .ensures), recall-new (start .pre .2) (start .pre .1) (start .args .part) (c .seek .ensures ∙ ap (λ (x : ℕ). place x (take (start .args .n) (start .args .keys .now))) (c .before .key-of .ensures)))
+    let start = c .before .before .before .before .before .before .before .before .before .before in (
+      c .find .ensures ∙ ap (λ (x : ℕ). place x (take (start .args .n) (start .args .keys .now))) (c .before .key-of .ensures),
+      recall-new (start .pre .3) (start .pre .2) (start .args .part) (c .find .ensures ∙ ap (λ (x : ℕ). place x (take (start .args .n) (start .args .keys .now))) (c .before .key-of .ensures)),
+    )
 
 pub recall-spec : {M : Type 1} → statement M
 recall-spec =
@@ -74,7 +78,7 @@ recall-spec =
     index-requires
     returns
     key-of-requires
-    seek-requires
+    find-requires
     mul-asked
     slice-write-asked
     cast-places

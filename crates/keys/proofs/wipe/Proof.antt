@@ -31,8 +31,11 @@ loop-less c = search needs
 
 loop-again : tie.Need-loop-again Inv-loop μ-loop
 loop-again c =
-    let at-loop = c .before in
-    (omega (arith, c .loop-test .taken), length-set (at-loop .loop .gifts) (at-loop .loop .e) _ ∙ at-loop .loop .inv .1, filled-on (λ k x. x ≡ 0) (at-loop .loop .gifts) (at-loop .loop .e) 0 (omega (arith, at-loop .loop .inv .1, c .before .before .pre, c .loop-test .taken)) (at-loop .loop .inv .2) refl)
+    let at-loop = c .before in (
+      omega (arith, c .loop-test .taken),
+      length-set (at-loop .loop .gifts) (at-loop .loop .e) _ ∙ at-loop .loop .inv .1,
+      filled-on (λ k x. x ≡ 0) (at-loop .loop .gifts) (at-loop .loop .e) 0 (omega (arith, at-loop .loop .inv .1, c .before .before .pre, c .loop-test .taken)) (at-loop .loop .inv .2) refl,
+    )
 
 same-length : tie.Need-same-length Inv-loop μ-loop
 same-length c = c .before .loop .inv .1

@@ -29,8 +29,13 @@ slice-aggregate-compile-2 c = search needs
 
 compile-requires : tie.Need-compile-requires
 compile-requires c κs =
-    let start = c .before .before .before .before .before .before .before .before .before .before .before .before .before .before .before .before .before .before .before .before .before .before .before .before .before in
-    (start .pre .0 .within, fits-sound (sheetIn (start .args .s .now) (start .args .y)) (start .pre .0 .fits), start .pre .0 .fits .few-rules, start .pre .1 .masks-are, record { code-long = length-replicate {A = ℕ} 3072 0; ends-long = length-replicate {A = ℕ} 67 0 })
+    let start = c .before .before .before .before .before .before .before .before .before .before .before .before .before .before .before .before .before .before .before .before .before .before .before .before .before in (
+      start .pre .0 .within,
+      fits-sound (sheetIn (start .args .s .now) (start .args .y)) (start .pre .0 .fits),
+      start .pre .0 .fits .few-rules,
+      start .pre .1 .masks-are,
+      record { code-long = length-replicate {A = ℕ} 3072 0; ends-long = length-replicate {A = ℕ} 67 0 },
+    )
 
 slice-aggregate-end-at : tie.Need-slice-aggregate-end-at
 slice-aggregate-end-at c = search needs
@@ -56,11 +61,14 @@ slice-aggregate-file-5 c = search needs
 slice-aggregate-file-6 : tie.Need-slice-aggregate-file-6
 slice-aggregate-file-6 c = search needs
 
+slice-aggregate-file-7 : tie.Need-slice-aggregate-file-7
+slice-aggregate-file-7 c = search needs
+
 file-requires : tie.Need-file-requires
 file-requires c κs =
-    let at-end-at = c .before .before .before .before .before .before in
+    let at-end-at = c .before .before .before .before .before .before .before in
     let at-compile = at-end-at .before .before .before .before in
-    let asks = file-asks (at-compile .compile .ensures .0) (at-compile .compile .ensures .1 .0) in (omega (arith, at-end-at .end-at .ensures, asks .1), omega (arith, at-end-at .end-at .ensures, asks .2), refl, refl, refl, refl, refl)
+    let asks = file-asks (at-compile .compile .ensures .0) (at-compile .compile .ensures .1 .0) in (omega (arith, at-end-at .end-at .ensures, asks .1), omega (arith, at-end-at .end-at .ensures, asks .2), refl, refl, refl, refl, refl, refl)
 
 slice-aggregate-explore : tie.Need-slice-aggregate-explore
 slice-aggregate-explore c = search needs
@@ -98,15 +106,26 @@ slice-aggregate-explore-11 c = search needs
 slice-aggregate-explore-12 : tie.Need-slice-aggregate-explore-12
 slice-aggregate-explore-12 c = search needs
 
+slice-aggregate-explore-13 : tie.Need-slice-aggregate-explore-13
+slice-aggregate-explore-13 c = search needs
+
 explore-requires : tie.Need-explore-requires
 explore-requires c κs =
-    let at-file = c .before .before .before .before .before .before .before .before .before .before .before .before .before .before .before .before .before .before .before .before .before .before in
-    let at-end-at = at-file .before .before .before .before .before .before .before in
+    let at-file = c .before .before .before .before .before .before .before .before .before .before .before .before .before .before .before .before .before .before .before .before .before .before .before .before in
+    let at-end-at = at-file .before .before .before .before .before .before .before .before in
     let at-compile = at-end-at .before .before .before .before in
     let at-reset = at-compile .before .before .before .before .before .before .before .before .before .before .before .before .before in
     let at-initial = at-reset .before .before .before .before .before .before in
-    let start = at-initial .before .before .before .before .before .before .before in
-    (start .pre .0, start .pre .1, first (rulesOf (sheetIn (start .args .s .now) (start .args .y))) (viewsOf (sheetIn (start .args .s .now) (start .args .y))) (at-reset .reset .ensures) (at-initial .initial .ensures) (omega arith), first-treed (at-reset .reset .ensures) (omega arith), record { compiled = at-compile .compile .ensures .0; sized = at-compile .compile .ensures .1 .0 }, filing-to (at-end-at .end-at .ensures) (at-file .file .ensures), length-replicate {A = ℕ} 514 0, memo-start (at-file .file .ensures) refl refl)
+    let start = at-initial .before .before .before .before .before .before .before in (
+      start .pre .0,
+      start .pre .1,
+      first (rulesOf (sheetIn (start .args .s .now) (start .args .y))) (viewsOf (sheetIn (start .args .s .now) (start .args .y))) (at-reset .reset .ensures) (at-initial .initial .ensures) (omega arith),
+      first-treed (at-reset .reset .ensures) (omega arith),
+      record { compiled = at-compile .compile .ensures .0; sized = at-compile .compile .ensures .1 .0 },
+      filing-to (at-end-at .end-at .ensures) (at-file .file .ensures),
+      length-replicate {A = ℕ} 514 0,
+      memo-start (at-file .file .ensures) refl refl,
+    )
 
 enum-known-built : tie.Need-enum-known-built
 enum-known-built c = search needs
@@ -114,7 +133,7 @@ enum-known-built c = search needs
 reset-requires-2 : tie.Need-reset-requires-2
 reset-requires-2 c κs =
     let at-explore = c .before .before .before .before .before .before .before .before .before .before .before .before .before .before .before .before .before .before .before .before .before .before .before in
-    let at-reset = at-explore .before .before .before .before .before .before .before .before .before .before .before .before .before .before .before .before .before .before .before .before .before .before .before .before .before .before .before .before .before .before .before .before .before .before .before .before .before .before .before .before .before .before .before .before .before .before .before in
+    let at-reset = at-explore .before .before .before .before .before .before .before .before .before .before .before .before .before .before .before .before .before .before .before .before .before .before .before .before .before .before .before .before .before .before .before .before .before .before .before .before .before .before .before .before .before .before .before .before .before .before .before .before .before .before in
     let at-initial = at-reset .before .before .before .before .before .before in
     let start = at-initial .before .before .before .before .before .before .before in
     let sizes = staged-sizes (first (rulesOf (sheetIn (start .args .s .now) (start .args .y))) (viewsOf (sheetIn (start .args .s .now) (start .args .y))) (at-reset .reset .ensures) (at-initial .initial .ensures) (omega arith)) in record { states-long = omega (arith, at-explore .explore .kept .1 .1 .1 .1 .1 .1 .0, sizes .states-long); starts-long = omega (arith, at-explore .explore .kept .1 .1 .1 .1 .1 .1 .1 .1 .1 .0, sizes .starts-long); successors-long = omega (arith, at-explore .explore .kept .1 .1 .1 .1 .1 .1 .1 .1 .1 .1 .0, sizes .successors-long); counts-long = omega (arith, at-explore .explore .kept .1 .1 .1 .1 .1 .1 .1 .1 .1 .1 .1 .0, sizes .counts-long); views-long = omega (arith, at-explore .explore .kept .1 .1 .1 .1 .1 .1 .1 .1 .1 .1 .1 .1 .0, sizes .views-long) }
@@ -123,35 +142,35 @@ same-length : tie.Need-same-length
 same-length c =
     let at-reset2 = c .before .before .before .before .before .before .before .before .before .before in
     let at-explore = at-reset2 .before .before .before .before .before .before .before .before .before .before .before .before .before .before .before .before .before .before .before .before .before .before .before .before in
-    let at-reset = at-explore .before .before .before .before .before .before .before .before .before .before .before .before .before .before .before .before .before .before .before .before .before .before .before .before .before .before .before .before .before .before .before .before .before .before .before .before .before .before .before .before .before .before .before .before .before .before .before in
+    let at-reset = at-explore .before .before .before .before .before .before .before .before .before .before .before .before .before .before .before .before .before .before .before .before .before .before .before .before .before .before .before .before .before .before .before .before .before .before .before .before .before .before .before .before .before .before .before .before .before .before .before .before .before .before in
     omega (arith, at-reset2 .reset2 .kept .1 .0, at-explore .explore .kept .1 .1 .1 .1 .1 .1 .0, at-reset .reset .kept .1 .0)
 
 same-length-2 : tie.Need-same-length-2
 same-length-2 c =
     let at-reset2 = c .before .before .before .before .before .before .before .before .before .before in
     let at-explore = at-reset2 .before .before .before .before .before .before .before .before .before .before .before .before .before .before .before .before .before .before .before .before .before .before .before .before in
-    let at-reset = at-explore .before .before .before .before .before .before .before .before .before .before .before .before .before .before .before .before .before .before .before .before .before .before .before .before .before .before .before .before .before .before .before .before .before .before .before .before .before .before .before .before .before .before .before .before .before .before .before in
+    let at-reset = at-explore .before .before .before .before .before .before .before .before .before .before .before .before .before .before .before .before .before .before .before .before .before .before .before .before .before .before .before .before .before .before .before .before .before .before .before .before .before .before .before .before .before .before .before .before .before .before .before .before .before .before in
     omega (arith, at-reset2 .reset2 .kept .1 .1 .0, at-explore .explore .kept .1 .1 .1 .1 .1 .1 .1 .1 .1 .0, at-reset .reset .kept .1 .1 .0)
 
 same-length-3 : tie.Need-same-length-3
 same-length-3 c =
     let at-reset2 = c .before .before .before .before .before .before .before .before .before .before in
     let at-explore = at-reset2 .before .before .before .before .before .before .before .before .before .before .before .before .before .before .before .before .before .before .before .before .before .before .before .before in
-    let at-reset = at-explore .before .before .before .before .before .before .before .before .before .before .before .before .before .before .before .before .before .before .before .before .before .before .before .before .before .before .before .before .before .before .before .before .before .before .before .before .before .before .before .before .before .before .before .before .before .before .before in
+    let at-reset = at-explore .before .before .before .before .before .before .before .before .before .before .before .before .before .before .before .before .before .before .before .before .before .before .before .before .before .before .before .before .before .before .before .before .before .before .before .before .before .before .before .before .before .before .before .before .before .before .before .before .before .before in
     omega (arith, at-reset2 .reset2 .kept .1 .1 .1 .0, at-explore .explore .kept .1 .1 .1 .1 .1 .1 .1 .1 .1 .1 .0, at-reset .reset .kept .1 .1 .1 .0)
 
 same-length-4 : tie.Need-same-length-4
 same-length-4 c =
     let at-reset2 = c .before .before .before .before .before .before .before .before .before .before in
     let at-explore = at-reset2 .before .before .before .before .before .before .before .before .before .before .before .before .before .before .before .before .before .before .before .before .before .before .before .before in
-    let at-reset = at-explore .before .before .before .before .before .before .before .before .before .before .before .before .before .before .before .before .before .before .before .before .before .before .before .before .before .before .before .before .before .before .before .before .before .before .before .before .before .before .before .before .before .before .before .before .before .before .before in
+    let at-reset = at-explore .before .before .before .before .before .before .before .before .before .before .before .before .before .before .before .before .before .before .before .before .before .before .before .before .before .before .before .before .before .before .before .before .before .before .before .before .before .before .before .before .before .before .before .before .before .before .before .before .before .before in
     omega (arith, at-reset2 .reset2 .kept .1 .1 .1 .1 .0, at-explore .explore .kept .1 .1 .1 .1 .1 .1 .1 .1 .1 .1 .1 .0, at-reset .reset .kept .1 .1 .1 .1 .0)
 
 same-length-5 : tie.Need-same-length-5
 same-length-5 c =
     let at-reset2 = c .before .before .before .before .before .before .before .before .before .before in
     let at-explore = at-reset2 .before .before .before .before .before .before .before .before .before .before .before .before .before .before .before .before .before .before .before .before .before .before .before .before in
-    let at-reset = at-explore .before .before .before .before .before .before .before .before .before .before .before .before .before .before .before .before .before .before .before .before .before .before .before .before .before .before .before .before .before .before .before .before .before .before .before .before .before .before .before .before .before .before .before .before .before .before .before in
+    let at-reset = at-explore .before .before .before .before .before .before .before .before .before .before .before .before .before .before .before .before .before .before .before .before .before .before .before .before .before .before .before .before .before .before .before .before .before .before .before .before .before .before .before .before .before .before .before .before .before .before .before .before .before .before in
     omega (arith, at-reset2 .reset2 .kept .1 .1 .1 .1 .1 .0, at-explore .explore .kept .1 .1 .1 .1 .1 .1 .1 .1 .1 .1 .1 .1 .0, at-reset .reset .kept .1 .1 .1 .1 .1 .0)
 
 returns : tie.Need-returns
@@ -167,31 +186,31 @@ enum-told c = search needs
 same-length-6 : tie.Need-same-length-6
 same-length-6 c =
     let at-explore = c .before .before .before .before .before .before .before .before .before .before .before .before .before .before .before .before .before in
-    let at-reset = at-explore .before .before .before .before .before .before .before .before .before .before .before .before .before .before .before .before .before .before .before .before .before .before .before .before .before .before .before .before .before .before .before .before .before .before .before .before .before .before .before .before .before .before .before .before .before .before .before in
+    let at-reset = at-explore .before .before .before .before .before .before .before .before .before .before .before .before .before .before .before .before .before .before .before .before .before .before .before .before .before .before .before .before .before .before .before .before .before .before .before .before .before .before .before .before .before .before .before .before .before .before .before .before .before .before in
     omega (arith, at-explore .explore .kept .1 .1 .1 .1 .1 .1 .0, at-reset .reset .kept .1 .0)
 
 same-length-7 : tie.Need-same-length-7
 same-length-7 c =
     let at-explore = c .before .before .before .before .before .before .before .before .before .before .before .before .before .before .before .before .before in
-    let at-reset = at-explore .before .before .before .before .before .before .before .before .before .before .before .before .before .before .before .before .before .before .before .before .before .before .before .before .before .before .before .before .before .before .before .before .before .before .before .before .before .before .before .before .before .before .before .before .before .before .before in
+    let at-reset = at-explore .before .before .before .before .before .before .before .before .before .before .before .before .before .before .before .before .before .before .before .before .before .before .before .before .before .before .before .before .before .before .before .before .before .before .before .before .before .before .before .before .before .before .before .before .before .before .before .before .before .before in
     omega (arith, at-explore .explore .kept .1 .1 .1 .1 .1 .1 .1 .1 .1 .0, at-reset .reset .kept .1 .1 .0)
 
 same-length-8 : tie.Need-same-length-8
 same-length-8 c =
     let at-explore = c .before .before .before .before .before .before .before .before .before .before .before .before .before .before .before .before .before in
-    let at-reset = at-explore .before .before .before .before .before .before .before .before .before .before .before .before .before .before .before .before .before .before .before .before .before .before .before .before .before .before .before .before .before .before .before .before .before .before .before .before .before .before .before .before .before .before .before .before .before .before .before in
+    let at-reset = at-explore .before .before .before .before .before .before .before .before .before .before .before .before .before .before .before .before .before .before .before .before .before .before .before .before .before .before .before .before .before .before .before .before .before .before .before .before .before .before .before .before .before .before .before .before .before .before .before .before .before .before in
     omega (arith, at-explore .explore .kept .1 .1 .1 .1 .1 .1 .1 .1 .1 .1 .0, at-reset .reset .kept .1 .1 .1 .0)
 
 same-length-9 : tie.Need-same-length-9
 same-length-9 c =
     let at-explore = c .before .before .before .before .before .before .before .before .before .before .before .before .before .before .before .before .before in
-    let at-reset = at-explore .before .before .before .before .before .before .before .before .before .before .before .before .before .before .before .before .before .before .before .before .before .before .before .before .before .before .before .before .before .before .before .before .before .before .before .before .before .before .before .before .before .before .before .before .before .before .before in
+    let at-reset = at-explore .before .before .before .before .before .before .before .before .before .before .before .before .before .before .before .before .before .before .before .before .before .before .before .before .before .before .before .before .before .before .before .before .before .before .before .before .before .before .before .before .before .before .before .before .before .before .before .before .before .before in
     omega (arith, at-explore .explore .kept .1 .1 .1 .1 .1 .1 .1 .1 .1 .1 .1 .0, at-reset .reset .kept .1 .1 .1 .1 .0)
 
 same-length-10 : tie.Need-same-length-10
 same-length-10 c =
     let at-explore = c .before .before .before .before .before .before .before .before .before .before .before .before .before .before .before .before .before in
-    let at-reset = at-explore .before .before .before .before .before .before .before .before .before .before .before .before .before .before .before .before .before .before .before .before .before .before .before .before .before .before .before .before .before .before .before .before .before .before .before .before .before .before .before .before .before .before .before .before .before .before .before in
+    let at-reset = at-explore .before .before .before .before .before .before .before .before .before .before .before .before .before .before .before .before .before .before .before .before .before .before .before .before .before .before .before .before .before .before .before .before .before .before .before .before .before .before .before .before .before .before .before .before .before .before .before .before .before .before in
     omega (arith, at-explore .explore .kept .1 .1 .1 .1 .1 .1 .1 .1 .1 .1 .1 .1 .0, at-reset .reset .kept .1 .1 .1 .1 .1 .0)
 
 returns-2 : tie.Need-returns-2
@@ -216,6 +235,7 @@ build-spec =
     slice-aggregate-file-4
     slice-aggregate-file-5
     slice-aggregate-file-6
+    slice-aggregate-file-7
     file-requires
     slice-aggregate-explore
     slice-aggregate-explore-2
@@ -229,6 +249,7 @@ build-spec =
     slice-aggregate-explore-10
     slice-aggregate-explore-11
     slice-aggregate-explore-12
+    slice-aggregate-explore-13
     explore-requires
     enum-known-built
     reset-requires-2

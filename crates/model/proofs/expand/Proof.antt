@@ -16,40 +16,44 @@ mul-x c = search needs
 
 slice-read-x : tie.Need-slice-read-x
 slice-read-x c =
-    let start = c .before .before .before .before .before .before .before .before .before .before .before .before .before .before .before .before .before .before .before in
+    let start = c .before .before .before .before .before .before .before .before .before .before .before .before .before .before .before .before .before .before .before .before in
     omega (arith, holds-length (start .pre .3 .states-hold), start .pre .2)
 
 offer-at-requires : tie.Need-offer-at-requires
 offer-at-requires c κs =
-    let start = c .before .before .before .before .before .before .before .before .before .before .before .before .before .before .before .before .before .before .before in
+    let start = c .before .before .before .before .before .before .before .before .before .before .before .before .before .before .before .before .before .before .before .before in
     (start .pre .0, start .pre .1, start .pre .5)
 
 joint-count-requires : tie.Need-joint-count-requires
 joint-count-requires c κs =
-    let start = c .before .before .before .before .before .before .before .before .before .before .before .before .before .before .before .before .before .before .before .before in
+    let start = c .before .before .before .before .before .before .before .before .before .before .before .before .before .before .before .before .before .before .before .before .before in
     few-roles (sheetIn (start .args .s .now) (start .args .y)) (start .pre .0 .fits)
 
 returns : tie.Need-returns
 returns c =
-    let start = c .before .before .before .before .before .before .before .before .before .before .before .before .before .before .before .before .before .before .before .before .before .before in
-    (lacks-choice (sheetIn (start .args .s .now) (start .args .y)) (start .pre .0 .fits) stateLimit moveLimit (start .pre .3) (start .pre .2) refl (c .before .before .offer-at .ensures) (c .before .joint-count .ensures) (c .if1 .taken), start .pre .8)
+    let start = c .before .before .before .before .before .before .before .before .before .before .before .before .before .before .before .before .before .before .before .before .before .before .before in (
+      lacks-choice (sheetIn (start .args .s .now) (start .args .y)) (start .pre .0 .fits) stateLimit moveLimit (start .pre .3) (start .pre .2) refl (c .before .before .offer-at .ensures) (c .before .joint-count .ensures) (c .if1 .taken),
+      start .pre .8,
+    )
 
 sub-if2 : tie.Need-sub-if2
 sub-if2 c =
-    let start = c .before .before .before .before .before .before .before .before .before .before .before .before .before .before .before .before .before .before .before .before .before .before in
+    let start = c .before .before .before .before .before .before .before .before .before .before .before .before .before .before .before .before .before .before .before .before .before .before .before in
     omega (arith, start .pre .3 .successors-hold .room)
 
 returns-2 : tie.Need-returns-2
 returns-2 c =
-    let start = c .before .before .before .before .before .before .before .before .before .before .before .before .before .before .before .before .before .before .before .before .before .before .before in
-    (too-many-moves (sheetIn (start .args .s .now) (start .args .y)) (start .pre .0 .fits) stateLimit moveLimit (start .pre .3) (start .pre .2) refl (c .before .before .before .offer-at .ensures) (c .before .before .joint-count .ensures) (c .before .if1 .left) (c .if2 .taken), start .pre .8)
+    let start = c .before .before .before .before .before .before .before .before .before .before .before .before .before .before .before .before .before .before .before .before .before .before .before .before in (
+      too-many-moves (sheetIn (start .args .s .now) (start .args .y)) (start .pre .0 .fits) stateLimit moveLimit (start .pre .3) (start .pre .2) refl (c .before .before .before .offer-at .ensures) (c .before .before .joint-count .ensures) (c .before .if1 .left) (c .if2 .taken),
+      start .pre .8,
+    )
 
 add-total : tie.Need-add-total
 add-total c = search needs
 
 note-counts-requires : tie.Need-note-counts-requires
 note-counts-requires c κs =
-    let start = c .before .before .before .before .before .before .before .before .before .before .before .before .before .before .before .before .before .before .before .before .before .before .before .before in
+    let start = c .before .before .before .before .before .before .before .before .before .before .before .before .before .before .before .before .before .before .before .before .before .before .before .before .before in
     (omega (arith, start .pre .2, start .pre .3 .states-hold .room), holds-clean (start .pre .3 .counts-hold))
 
 views-of-requires : tie.Need-views-of-requires
@@ -60,7 +64,7 @@ mul-views c = search needs
 
 slice-write-views : tie.Need-slice-write-views
 slice-write-views c =
-    let start = c .before .before .before .before .before .before .before .before .before .before .before .before .before .before .before .before .before .before .before .before .before .before .before .before .before .before .before .before in
+    let start = c .before .before .before .before .before .before .before .before .before .before .before .before .before .before .before .before .before .before .before .before .before .before .before .before .before .before .before .before .before in
     omega (arith, holds-length (start .pre .3 .views-hold), start .pre .2, start .pre .3 .states-hold .room)
 
 cast-starts : tie.Need-cast-starts
@@ -74,12 +78,12 @@ mul-starts c = search needs
 
 slice-write-starts : tie.Need-slice-write-starts
 slice-write-starts c =
-    let start = c .before .before .before .before .before .before .before .before .before .before .before .before .before .before .before .before .before .before .before .before .before .before .before .before .before .before .before .before in
+    let start = c .before .before .before .before .before .before .before .before .before .before .before .before .before .before .before .before .before .before .before .before .before .before .before .before .before .before .before .before .before in
     omega (arith, holds-length (start .pre .3 .starts-hold), start .pre .2, start .pre .3 .states-hold .room)
 
 gather-at-requires : tie.Need-gather-at-requires
 gather-at-requires c κs =
-    let start = c .before .before .before .before .before .before .before .before .before .before .before .before .before .before .before .before .before .before .before .before .before .before .before .before .before .before .before .before .before in
+    let start = c .before .before .before .before .before .before .before .before .before .before .before .before .before .before .before .before .before .before .before .before .before .before .before .before .before .before .before .before .before .before in
     let asks = gather-asks (start .pre .5) (start .pre .6) in (asks .0, asks .1, start .pre .7)
 
 list-targets-requires : tie.Need-list-targets-requires
@@ -87,8 +91,16 @@ list-targets-requires c κs =
     let at-gather-at = c .before .before .before .before .before .before .before .before .before in
     let at-if2 = at-gather-at .before .before .before .before .before .before .before in
     let at-joint-count = at-if2 .before .before in
-    let start = at-joint-count .before .before .before .before .before .before .before .before .before .before .before .before .before .before .before .before .before .before .before .before .before in
-    (start .pre .0, at-joint-count .joint-count .ensures, holds-clean (start .pre .3 .states-hold), start .pre .4, holds-clean (start .pre .3 .successors-hold), omega (arith, at-if2 .if2 .left, start .pre .3 .successors-hold .room), gathered-serves (start .pre .5) (start .pre .6) (start .pre .0 .fits) _ (at-gather-at .gather-at .ensures), start .pre .8)
+    let start = at-joint-count .before .before .before .before .before .before .before .before .before .before .before .before .before .before .before .before .before .before .before .before .before .before in (
+      start .pre .0,
+      at-joint-count .joint-count .ensures,
+      holds-clean (start .pre .3 .states-hold),
+      start .pre .4,
+      holds-clean (start .pre .3 .successors-hold),
+      omega (arith, at-if2 .if2 .left, start .pre .3 .successors-hold .room),
+      gathered-serves (start .pre .5) (start .pre .6) (start .pre .0 .fits) _ (at-gather-at .gather-at .ensures),
+      start .pre .8,
+    )
 
 enum-known-listing : tie.Need-enum-known-listing
 enum-known-listing c = search needs
@@ -135,8 +147,10 @@ returns-3 c =
     let at-if1 = at-if2 .before in
     let at-joint-count = at-if1 .before in
     let at-offer-at = at-joint-count .before in
-    let start = at-offer-at .before .before .before .before .before .before .before .before .before .before .before .before .before .before .before .before .before .before .before .before in
-    (one-more (sheetIn (start .args .s .now) (start .args .y)) (start .pre .0 .fits) stateLimit moveLimit (start .pre .3) (start .pre .2) refl (at-offer-at .offer-at .ensures) (at-joint-count .joint-count .ensures) (at-if1 .if1 .left) (at-if2 .if2 .left) _ _ _ _ _ (at-list-targets .list-targets .ensures .0) (c .before .listing .given .1) (at-views-of .views-of .ensures) (at-note-counts .note-counts .ensures), at-list-targets .list-targets .ensures .1)
+    let start = at-offer-at .before .before .before .before .before .before .before .before .before .before .before .before .before .before .before .before .before .before .before .before .before in (
+      one-more (sheetIn (start .args .s .now) (start .args .y)) (start .pre .0 .fits) stateLimit moveLimit (start .pre .3) (start .pre .2) refl (at-offer-at .offer-at .ensures) (at-joint-count .joint-count .ensures) (at-if1 .if1 .left) (at-if2 .if2 .left) _ _ _ _ _ (at-list-targets .list-targets .ensures .0) (c .before .listing .given .1) (at-views-of .views-of .ensures) (at-note-counts .note-counts .ensures),
+      at-list-targets .list-targets .ensures .1,
+    )
 
 same-length-11 : tie.Need-same-length-11
 same-length-11 c = search needs
@@ -175,8 +189,10 @@ returns-4 c =
     let at-if1 = at-if2 .before in
     let at-joint-count = at-if1 .before in
     let at-offer-at = at-joint-count .before in
-    let start = at-offer-at .before .before .before .before .before .before .before .before .before .before .before .before .before .before .before .before .before .before .before .before in
-    (too-many-states (sheetIn (start .args .s .now) (start .args .y)) (start .pre .0 .fits) stateLimit moveLimit (start .pre .3) (start .pre .2) refl (at-offer-at .offer-at .ensures) (at-joint-count .joint-count .ensures) (at-if1 .if1 .left) (at-if2 .if2 .left) _ _ _ _ _ (at-list-targets .list-targets .ensures .0) (c .enum-told .given .1), at-list-targets .list-targets .ensures .1)
+    let start = at-offer-at .before .before .before .before .before .before .before .before .before .before .before .before .before .before .before .before .before .before .before .before .before in (
+      too-many-states (sheetIn (start .args .s .now) (start .args .y)) (start .pre .0 .fits) stateLimit moveLimit (start .pre .3) (start .pre .2) refl (at-offer-at .offer-at .ensures) (at-joint-count .joint-count .ensures) (at-if1 .if1 .left) (at-if2 .if2 .left) _ _ _ _ _ (at-list-targets .list-targets .ensures .0) (c .enum-told .given .1),
+      at-list-targets .list-targets .ensures .1,
+    )
 
 pub expand-spec : {M : Type 1} → statement M
 expand-spec =

@@ -45,8 +45,10 @@ loop-less c = search needs
 loop-again : tie.Need-loop-again Inv-loop μ-loop
 loop-again c =
     let head = c .before .before in
-    let start = head .before .before in
-    (omega arith, row-more roleLimit (roleOf (start .args .o) (start .args .y .sizes .roles)) (take (roleLimit * start .args .k) (start .args .counts .now)) (head .loop .inv .1) (c .before .loop-test .taken) (c .role-count .ensures) (omega arith) (omega arith))
+    let start = head .before .before in (
+      omega arith,
+      row-more roleLimit (roleOf (start .args .o) (start .args .y .sizes .roles)) (take (roleLimit * start .args .k) (start .args .counts .now)) (head .loop .inv .1) (c .before .loop-test .taken) (c .role-count .ensures) (omega arith) (omega arith),
+    )
 
 same-length : tie.Need-same-length Inv-loop μ-loop
 same-length c =

@@ -16,28 +16,30 @@ number-requires c κs = search needs
 
 returns : tie.Need-returns
 returns c =
-    let start = c .before .before .before .before .before .before .before .before .before .before .before .before .before .before .before in
+    let start = c .before .before .before .before .before .before .before .before .before .before .before .before .before .before .before .before in
     (target-stays (start .args .o) (sheetIn (start .args .s .now) (start .args .y)) _ (c .before .if1 .taken) (c .number .ensures), start .pre .3)
 
 cast-joint-move : tie.Need-cast-joint-move
 cast-joint-move c =
     let at-wide = c .before .before .before .before in
-    let start = at-wide .before .before .before .before .before .before .before .before .before .before in
+    let start = at-wide .before .before .before .before .before .before .before .before .before .before .before in
     let small = below-total (start .args .o) _ _ _ (at-wide .wide .ensures) (start .pre .1) in omega (arith, total-four (start .args .o .choices .sets) (at-wide .wide .result) (omega (arith, at-wide .wide .ensures, few-roles (sheetIn (start .args .s .now) (start .args .y)) (start .pre .0 .fits))), small)
 
 joint-move-requires : tie.Need-joint-move-requires
 joint-move-requires c κs =
     let at-wide = c .before .before .before .before in
-    let start = at-wide .before .before .before .before .before .before .before .before .before .before in
-    (omega (arith, at-wide .wide .ensures, few-roles (sheetIn (start .args .s .now) (start .args .y)) (start .pre .0 .fits)), below-total (start .args .o) _ _ _ (at-wide .wide .ensures) (start .pre .1))
+    let start = at-wide .before .before .before .before .before .before .before .before .before .before .before in (
+      omega (arith, at-wide .wide .ensures, few-roles (sheetIn (start .args .s .now) (start .args .y)) (start .pre .0 .fits)),
+      below-total (start .args .o) _ _ _ (at-wide .wide .ensures) (start .pre .1),
+    )
 
 joint-of-requires : tie.Need-joint-of-requires
 joint-of-requires c κs = search needs
 
 give-requires : tie.Need-give-requires
 give-requires c κs =
-    let start = c .before .before .before .before .before .before .before .before .before .before .before .before .before .before .before .before .before .before in
-    (start .pre .2 .tree, start .pre .2 .few, start .pre .2 .masks-long, start .pre .2 .room, start .pre .3)
+    let start = c .before .before .before .before .before .before .before .before .before .before .before .before .before .before .before .before .before .before .before in
+    (start .pre .2 .tree, start .pre .2 .hinted, start .pre .2 .few, start .pre .2 .masks-long, start .pre .2 .room, start .pre .3)
 
 same-length : tie.Need-same-length
 same-length c = search needs
@@ -52,8 +54,10 @@ returns-2 c =
     let at-joint-move = at-joint-of .before in
     let at-if1 = at-joint-move .before in
     let at-wide = at-if1 .before .before .before .before in
-    let start = at-wide .before .before .before .before .before .before .before .before .before .before in
-    (target-goes (start .args .o) (sheetIn (start .args .s .now) (start .args .y)) _ _ (at-if1 .if1 .left) (at-wide .wide .ensures) (at-joint-move .joint-move .ensures) (start .pre .2) (at-joint-of .joint-of .ensures) (at-give .give .ensures .0), at-give .give .ensures .1)
+    let start = at-wide .before .before .before .before .before .before .before .before .before .before .before in (
+      target-goes (start .args .o) (sheetIn (start .args .s .now) (start .args .y)) _ _ (at-if1 .if1 .left) (at-wide .wide .ensures) (at-joint-move .joint-move .ensures) (start .pre .2) (at-joint-of .joint-of .ensures) (at-give .give .ensures .0),
+      at-give .give .ensures .1,
+    )
 
 pub reach-spec : {M : Type 1} → statement M
 reach-spec =
