@@ -1,4 +1,6 @@
 // The round counts by walking backwards: from the positions that have a count over the joint moves that lead to them, each of which is visited once.
+#![tactic(auto)]
+
 ghost use Rattle.std.specs.Prelude.{◌≡◌, cond, List, ℕ, ◌+◌, ◌-◌, ◌<◌, ◌≤◌, eqb, ltb, length, set};
 ghost use Rattle.atl.specs.Bounded.{tabulate};
 ghost use Rattle.atl.specs.Marking.{unset, swept};

@@ -1,5 +1,7 @@
 // Solves many sheets from one stream and prints their listings one after another. In the stream a sheet stands behind its length,
 // two bytes, low byte first. The tables are not cleared between sheets: the engine takes them as they are.
+#![tactic(auto)]
+
 ghost use Rattle.std.specs.Prelude.{◌≤◌, length};
 
 // How many bytes the next sheet has.

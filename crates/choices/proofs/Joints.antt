@@ -2,7 +2,7 @@
 use Prim.Native.Nat.{ℕ, zero, suc, ◌*◌, ◌/◌, ◌%◌, ◌<◌, suc-le-suc, zero-le}
 use mathlib.Core.Path.{◌≡◌, refl, sym, ap, ap₂, ◌∙◌, subst}
 use mathlib.Core.List.{List, [], ◌∷◌, map}
-use mathlib.Core.Logic.{inl, ⊎_elim}
+use mathlib.Core.Logic.{inl, inr, ⊎_elim}
 use native.Mathlib.Nat.{not-suc-le-zero, le_of_suc-le-suc, eq-zero-or-pos}
 use native.Mathlib.Omega.{arith}
 use lib.ListN.{length, get_or}
@@ -26,6 +26,7 @@ joints_same (suc n) c e h =
 
 joint_length : (n : ℕ) (c : ℕ → List ℕ) (m : List ℕ) → m ∈ joints n c → length m ≡ n
 unfolding joints
+joint_length zero c m (inr x'') = elim x'' [ ]
 joint_length zero c m (inl e) = ap length e
 joint_length (suc n) c m h =
     let (x, i, q) = all_∈ (λ x. map (λ l. x ∷ l) (joints n (λ r. c (suc r)))) m (c 0) h in

@@ -139,12 +139,16 @@ pub data Chosen : List ℕ → List ℕ → Type 0 where
   one : {s m : ℕ} {ss ms : List ℕ} → m < 16 → has s m ≡ true → Chosen ss ms → Chosen (s ∷ ss) (m ∷ ms)
 
 chosen_long : (ss ms : List ℕ) → Chosen ss ms → length ms ≡ length ss
+chosen_long (s ∷ ss) [] x3 = elim x3 [ ]
+chosen_long [] (m ∷ ms) x'' = elim x'' [ ]
 chosen_long [] [] none = refl
 chosen_long (s ∷ ss) (m ∷ ms) (one a b c) = ap suc (chosen_long ss ms c)
 
 -- The joint move of its number is the joint move.
 pub decode_encode : (ss ms : List ℕ) → Chosen ss ms → (encode ss ms 0 < total ss) × (decode ss (encode ss ms 0) ≡ ms)
 unfolding encode decode total
+decode_encode (s ∷ ss) [] x3 = elim x3 [ ]
+decode_encode [] (m ∷ ms) x'' = elim x'' [ ]
 decode_encode [] [] none = (omega arith, refl)
 decode_encode (s ∷ ss) (m ∷ ms) (one low in_set rest) =
     let T = total ss in

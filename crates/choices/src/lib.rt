@@ -1,9 +1,11 @@
 // The choices of the roles in a state, by value, and the joint moves that they make.
+#![tactic(auto)]
+
 ghost use Rattle.std.specs.Prelude.{◌≡◌, ◌≤◌, ◌<◌, length, take, get_or};
 ghost use Rattle.choices.specs.Moves.{members, full, total, decode, rank, encode, four};
 
 // Each role's choices as a set of sixteen bits. In a terminal state each role has one, number 0, and the game stays.
-#[derive(Drop)]
+#[derive(Clone, Copy)]
 pub struct Choices {
     pub sets: [u16; 4],
     pub terminal: bool,

@@ -1,4 +1,6 @@
 // The engine: a sheet and six lent tables in, an answer out.
+#![tactic(auto)]
+
 ghost use Rattle.std.specs.Prelude.{◌≡◌, true, length, replicate};
 ghost use Rattle.sheet.specs.declared.Answer.TheVariants.{Accepted as Read};
 ghost use Rattle.sheet.specs.Reading.{read_sheet, sheet_in};
@@ -13,7 +15,7 @@ use tables::{clear16, clear64, right_lengths};
 use views::Strata;
 
 // Why a sheet is refused. Document 01's number and place of each: `number`, `place`.
-#[derive(Drop)]
+#[derive(Clone, Copy)]
 pub enum Refusal {
     // a table of another length
     Table,
@@ -30,7 +32,7 @@ pub enum Refusal {
 }
 
 // Accepted: how many states, how many joint moves, and the verdict.
-#[derive(Drop)]
+#[derive(Clone, Copy)]
 pub enum Answer {
     Accepted(usize, usize, bool),
     Refused(Refusal),

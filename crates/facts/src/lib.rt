@@ -1,8 +1,10 @@
 // A set of facts by value: fact i is bit i of a 64-bit number.
+#![tactic(auto)]
+
 ghost use Rattle.std.specs.Prelude.{◌≡◌, ◌<◌};
 ghost use Rattle.facts.specs.Bits.{has, insert};
 
-#[derive(Drop)]
+#[derive(Clone, Copy)]
 pub struct FactSet {
     pub bits: u64,
 }

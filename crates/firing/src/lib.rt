@@ -1,4 +1,6 @@
 // Which rules fire, by their codes: one slot of the table, a stretch of slots, the views of a state.
+#![tactic(auto)]
+
 ghost use Rattle.std.specs.Prelude.{◌≡◌, cond, ◌+◌, ◌-◌, ◌*◌, ◌<◌, ◌≤◌, length, get_or};
 ghost use Rattle.facts.specs.Bits.{insert};
 ghost use Rattle.codes.specs.Codes.{bits, covers, avoids, calm, stirs};

@@ -1,4 +1,6 @@
 // Successors by keys: what the rules give is gathered once a position, by the moves that they wait for, and looked up for each joint move.
+#![tactic(auto)]
+
 ghost use Rattle.std.specs.Prelude.{◌≡◌, ℕ, ◌+◌, ◌*◌, ◌%◌, ◌≤◌, ◌<◌, max, length, take, replicate, get_or};
 ghost use Rattle.tables.specs.Lengths.{state_limit};
 ghost use Rattle.sheet.specs.Limits.{most_rules};
@@ -34,7 +36,7 @@ const ROLES: u8 = 4;
 const HALF: u64 = 0x100000000;
 
 // How many keys there are, and one more than the highest kind.
-#[derive(Drop)]
+#[derive(Clone, Copy)]
 pub struct Filed {
     pub keys: usize,
     pub kinds: usize,

@@ -2,6 +2,8 @@
 //
 // No function here asks anything of its caller. A buffer that is too short cuts the text, and a table reads as zero behind its end;
 // with LISTING_ROOM bytes and at most 1,024 states nothing is cut.
+#![tactic(auto)]
+
 ghost use Rattle.std.specs.Prelude.{◌≡◌, ◌≤◌, ◌∷◌, [], ◌++◌, length, get_or};
 ghost use Rattle.facts.specs.Bits.{bit};
 ghost use Rattle.tables.specs.Lengths.{state_limit};

@@ -1,4 +1,6 @@
 // A number found among many: the numbers of a table are the ends of a tree of tests, and one way of at most 64 steps is walked.
+#![tactic(auto)]
+
 ghost use Rattle.std.specs.Prelude.{◌≡◌, ℕ, ◌+◌, ◌*◌, ◌≤◌, ◌<◌, take};
 ghost use Rattle.facts.specs.Bits.{bit};
 ghost use Rattle.tables.specs.Lengths.{state_limit};

@@ -1,4 +1,6 @@
 // The marking of a game in tables: what a coalition can secure in one position, the counts before the first round, and the choices.
+#![tactic(auto)]
+
 ghost use Rattle.std.specs.Prelude.{◌≡◌, cond, ℕ, ◌+◌, ◌<◌, ◌≤◌, get_or, length};
 ghost use Rattle.facts.specs.Bits.{has};
 ghost use Rattle.atl.specs.Bounded.{lowest, tabulate};
@@ -11,7 +13,7 @@ ghost use Rattle.marking.specs.Rule.{bits, permits};
 use facts::FactSet;
 use radix::wide;
 
-#[derive(Drop)]
+#[derive(Clone, Copy)]
 pub enum Found {
     At(u16),
     Nothing,

@@ -1,4 +1,6 @@
 // The marks of the nodes, bit j for node j, and for the last node the rounds and choices: over the model's tables at full size.
+#![tactic(auto)]
+
 ghost use Rattle.std.specs.Prelude.{◌≡◌, not, ◌&&◌, ◌||◌, ◌++◌, ◌<◌, ◌≤◌, get_or, length, set, take, drop};
 ghost use Rattle.facts.specs.Pack.{add_if};
 ghost use Rattle.atl.specs.Game.{everything};

@@ -1,4 +1,6 @@
 // The reachable model of a game, built into lent tables: states by number, starts, successors, each role's count of moves, and the views.
+#![tactic(auto)]
+
 ghost use Rattle.std.specs.Prelude.{◌≡◌, ◌++◌, ◌+◌, ◌*◌, ◌≤◌, ◌<◌, length, get_or, take};
 ghost use Rattle.tables.specs.Lengths.{state_limit, move_limit};
 ghost use Rattle.atl.specs.Bounded.{tabulate};
@@ -23,21 +25,21 @@ use tables::{MOVE_LIMIT, STATE_LIMIT, clear16, clear64};
 pub const ROLE_LIMIT: usize = 4;
 
 // The number of a state, and how many states there are then; or no room for it.
-#[derive(Drop)]
+#[derive(Clone, Copy)]
 enum Slot {
     At(usize, usize),
     Full,
 }
 
 // How many states there are once a state's targets are listed; or too many.
-#[derive(Drop)]
+#[derive(Clone, Copy)]
 enum Listing {
     Done(usize),
     Over,
 }
 
 // Why there is no model, and which state was being expanded.
-#[derive(Drop)]
+#[derive(Clone, Copy)]
 pub enum Refusal {
     NoChoice(usize),
     ManyMoves(usize),
@@ -45,14 +47,14 @@ pub enum Refusal {
 }
 
 // One state is expanded: how many states and joint moves there are then.
-#[derive(Drop)]
+#[derive(Clone, Copy)]
 enum Step {
     Next(usize, usize),
     Stop(Refusal),
 }
 
 // How many states and joint moves the model has.
-#[derive(Drop)]
+#[derive(Clone, Copy)]
 pub enum Built {
     Accepted(usize, usize),
     Refused(Refusal),

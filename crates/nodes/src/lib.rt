@@ -1,4 +1,6 @@
 // The question over the model: every node is marked in every position, the last one has its rounds and choices, and its mark at state 0 is the verdict.
+#![tactic(auto)]
+
 ghost use Rattle.std.specs.Prelude.{◌≡◌, [], ◌+◌, ◌-◌, ◌*◌, ◌<◌, ◌≤◌, length, take};
 ghost use Rattle.tables.specs.Lengths.{state_limit};
 ghost use Rattle.tables.specs.Pad.{pad};
@@ -24,7 +26,7 @@ use sheet::Layout;
 use sheet::question::{Future, Question, question_at};
 
 // The goal of a last node that is EVENTUALLY: its coalition and its operand.
-#[derive(Drop)]
+#[derive(Clone, Copy)]
 pub enum Goal {
     Reach(u8, u8),
     Other,

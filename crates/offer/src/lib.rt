@@ -1,4 +1,6 @@
 // What a position offers, found once: its views and choices; and from these its joint moves by number and their targets.
+#![tactic(auto)]
+
 ghost use Rattle.std.specs.Prelude.{◌≡◌, ◌<◌, ◌≤◌, length, get_or, take};
 ghost use Rattle.sheet.specs.Reading.{sheet_in};
 ghost use Rattle.position.specs.Position.{rules_of};
@@ -14,7 +16,7 @@ use rules::{Look, init_facts, wide};
 use sheet::Layout;
 
 // A position's facts and views, and its roles' choices.
-#[derive(Drop)]
+#[derive(Clone, Copy)]
 pub struct Offer {
     pub look: Look,
     pub choices: Choices,

@@ -37,6 +37,7 @@ sizes_room z e =
 
 -- one rule of many
 pub rule_fits_lem : (z : Sizes) (rs : List Rule) → RulesFit z rs → (r : Rule) → Memᴰ r rs → (rule_fits z r ≡ true) × (form_fits r ≡ true)
+rule_fits_lem z [] _ r x3 = elim x3 [ ]
 rule_fits_lem z (p ∷ rs) (fields.one few a b rest) r (Memᴰ.head e) = subst (λ (q : Rule). (rule_fits z q ≡ true) × (form_fits q ≡ true)) (sym e) (a, b)
 rule_fits_lem z (p ∷ rs) (fields.one few a b rest) r (Memᴰ.tail i) = rule_fits_lem z rs rest r i
 
@@ -66,6 +67,7 @@ module _ (z : Sizes) (r : Rule) (fit : rule_fits z r ≡ true) where
 
 -- no DOES but under NEXT
 every_in : (f : Part → Bool) (b : List Part) → every f b ≡ true → (l : Part) → Memᴰ l b → f l ≡ true
+every_in f [] e l x'' = elim x'' [ ]
 every_in f (p ∷ b) e l (Memᴰ.head q) = ap f q ∙ and_left (f p) (every f b) e
 every_in f (p ∷ b) e l (Memᴰ.tail i) = every_in f b (and_right (f p) (every f b) e) l i
 

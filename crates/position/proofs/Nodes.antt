@@ -57,6 +57,8 @@ module _ (z : Sizes) (j a b c : ℕ) where
 
   each_at : (ls : List Limits) (qs : List Question) → Each ls qs → (k : ℕ) → Fine (get_or ls k (lim 0 0 0)) (get_or qs k Unknown)
   unfolding node_of
+  each_at (l ∷ ls) [] x3 k = elim x3 [ ]
+  each_at [] (q ∷ qs) x'' k = elim x'' [ ]
   each_at [] [] done k = λ w. tt
   each_at (l ∷ ls) (q ∷ qs) (f then e) zero = f
   each_at (l ∷ ls) (q ∷ qs) (f then e) (suc k) = each_at ls qs e k

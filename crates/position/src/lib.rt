@@ -1,4 +1,6 @@
 // One position of the game: what it offers, and what the plain tests say of it.
+#![tactic(auto)]
+
 ghost use Rattle.std.specs.Prelude.{◌≡◌, ◌*◌, ◌/◌, ◌%◌, ◌^◌, ◌<◌, ◌≤◌, length};
 ghost use Rattle.facts.specs.Bits.{has};
 ghost use Rattle.sheet.specs.Data.{rules_from, rules_end};

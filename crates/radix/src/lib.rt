@@ -1,5 +1,7 @@
 // Joint moves as mixed radix numbers, role 0 slowest: the class of each joint move for a coalition.
 // Two joint moves of a position have the same class exactly where they give the coalition's roles the same choices.
+#![tactic(auto)]
+
 ghost use Rattle.std.specs.Prelude.{◌≡◌, cond, ◌+◌, ◌*◌, ◌<◌, ◌≤◌, get_or, length};
 ghost use Rattle.facts.specs.Bits.{has};
 ghost use Rattle.meaning.specs.Radix.{product};

@@ -1,5 +1,7 @@
 // Reads many sheets from one stream and prints a line for each: `ok`, rules and nodes, or `no`, number and place.
 // In the stream a sheet stands behind its length, two bytes, low byte first.
+#![tactic(auto)]
+
 ghost use Rattle.std.specs.Prelude.{◌+◌, ◌≤◌, ◌<◌, length};
 
 use sheet::Answer;

@@ -1,4 +1,6 @@
 // One run of the engine, told as text: the listing, or the line of a refusal.
+#![tactic(auto)]
+
 ghost use Rattle.std.specs.Prelude.{◌≡◌};
 ghost use Rattle.sheet.specs.declared.Answer.TheVariants.{Accepted as Read};
 ghost use Rattle.sheet.specs.Reading.{read_sheet};
@@ -12,7 +14,7 @@ use sheet::Layout;
 use sheet::question::{Future, Question};
 
 // The last node: its number, and whether it is EVENTUALLY.
-#[derive(Drop)]
+#[derive(Clone, Copy)]
 pub struct Last {
     pub number: usize,
     pub eventually: bool,

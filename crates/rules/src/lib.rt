@@ -1,4 +1,6 @@
 // What the rules of the lent sheet give at a position: one literal, one body, one loop over the rules.
+#![tactic(auto)]
+
 ghost use Rattle.std.specs.Prelude.{◌≡◌, cond, ◌&&◌, ◌+◌, ◌*◌, ◌<◌, ◌≤◌, length};
 ghost use Rattle.sheet.specs.Data.{byte, part, part_at, body_from, rule_at, rules_from, rules_end};
 ghost use Rattle.rules.specs.declared.Ask.TheVariants.{Legals};
@@ -8,7 +10,7 @@ ghost use Rattle.rules.specs.Rules.{fires, over, member_of, seen_by, added, gath
 use facts::FactSet;
 
 // What literals are read off: the facts and the views that hold, and each role's move.
-#[derive(Drop)]
+#[derive(Clone, Copy)]
 pub struct Look {
     pub facts: FactSet,
     pub views: FactSet,
@@ -17,7 +19,7 @@ pub struct Look {
 
 // The set that is asked for: the facts of INIT or of NEXT, the views among some, a role's legal moves;
 // or a yes (bit 0), for a role's goal of a value or for the end of the game; or the legal moves of all roles, sixteen bits a role.
-#[derive(Drop)]
+#[derive(Clone, Copy)]
 pub enum Ask {
     Init,
     Next,

@@ -1,4 +1,6 @@
 // Lent tables: their lengths, an entry of one, and a table cleared. No function here asks anything of its caller.
+#![tactic(auto)]
+
 ghost use Rattle.std.specs.Prelude.{◌≡◌, min, length, get_or, replicate};
 ghost use Rattle.tables.specs.Lengths.{state_limit, move_limit, right_lengths};
 

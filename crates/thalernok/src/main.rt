@@ -1,4 +1,6 @@
 // The program: reads a sheet from standard input and prints its listing, or the line of its refusal.
+#![tactic(auto)]
+
 fn main() {
     let mut sheet: [u8; 16384] = [0; 16384];
     let mut states: [u64; 1024] = [0; 1024];

@@ -1,4 +1,6 @@
 // The views of the lent sheet: which views each leads to, the views of each level, and refusal 5.
+#![tactic(auto)]
+
 ghost use Rattle.std.specs.Prelude.{◌≡◌, cond, map, ◌+◌, ◌*◌, ◌<◌, ◌≤◌, length, get_or};
 ghost use Rattle.sheet.specs.Data.{byte, part_at, body_from, rule_at, rules_from, rules_end};
 ghost use Rattle.rules.specs.Rules.{over};
@@ -10,7 +12,7 @@ use facts::FactSet;
 use rules::{rule_length, wide};
 
 // Are the VIEW rules stratified? If not, the lowest view on a closed chain with a NOT in it.
-#[derive(Drop)]
+#[derive(Clone, Copy)]
 pub enum Strata {
     Stratified,
     NotStratified(u8),
