@@ -1,0 +1,15 @@
+-- `model::note_counts` meets its contract. The invariant: the counts of the first r roles are stored.
+use Prim.Native.Nat.{◌+◌, ◌-◌, ◌*◌, ◌≤◌}
+use mathlib.Core.List.{◌++◌}
+use lib.ListN.{take}
+use Rattle.tables.specs.Lengths.{state_limit}
+use Rattle.atl.specs.Bounded.{tabulate}
+use Rattle.offer.specs.Offer.{role_limit, role_of}
+use Rattle.model.specs.Tables.{Holds}
+use Rattle.model.proofs.note_counts.Given as goal
+
+abbrev pub invariant-loop-r : goal.invariant-loop-r
+invariant-loop-r l = (l.r ≤ role_limit) × Holds (role_limit * state_limit) l.counts (role_limit * l.k + l.r) (take (role_limit * l.k) l.initial.counts ++ take l.r (tabulate role_limit (role_of l.o l.y.sizes.roles)))
+
+abbrev pub decreases-loop-r : goal.decreases-loop-r
+decreases-loop-r l = role_limit - l.r
