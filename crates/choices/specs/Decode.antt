@@ -1,11 +1,11 @@
--- A joint move taken apart, role by role: what holds after p roles, where it starts, a turn, and where it ends.
-use Rattle.std.specs.Prelude.{◌≡◌, refl, ℕ, suc, ◌+◌, ◌-◌, ◌*◌, ◌/◌, ◌%◌, ◌≤◌, ◌<◌, length, get_or, drop, set, replicate, ◌⊎◌}
+-- A joint move taken apart, role by role: what holds after p roles, where it starts, where it ends, and that each role has some choice.
+use Rattle.std.specs.Prelude.{◌≡◌, refl, ℕ, suc, ◌+◌, ◌-◌, ◌*◌, ◌/◌, ◌≤◌, ◌<◌, length, get_or, drop, replicate, ◌⊎◌}
 use Rattle.std.proofs.Math.Path.{sym, ap}
-use Rattle.std.proofs.Common.{ap₂, ◌∙◌, subst, zero-mul, mul-zero, mod-lt, eq-zero-or-pos, add-one, arith, length-set, take-append-drop, drop-cons, drop-set-lt, drop-drop, length-take-le, get_or-take, inl, inr}
-use mathlib.Core.List.{List, [], ◌∷◌, ◌++◌, append_assoc, append-nil}
+use Rattle.std.proofs.Common.{ap₂, ◌∙◌, subst, zero-mul, mul-zero, eq-zero-or-pos, add-one, arith, take-append-drop, drop-cons, length-take-le, get_or-take, inl, inr}
+use mathlib.Core.List.{List, [], ◌∷◌, ◌++◌, append-nil}
 use Rattle.std.proofs.Math.Nat.{mul-div_cancel_left}
 use Rattle.std.proofs.Math.ListN.{take}
-use Rattle.std.proofs.Math.Seq.{take-suc-set, drop-length}
+use Rattle.std.proofs.Math.Seq.{drop-length}
 use Rattle.choices.specs.Moves.{members, total, decode, four}
 
 pub record Mid (ss : List ℕ) (j p w rest : ℕ) (out : List ℕ) : Type 0 where
@@ -65,37 +65,6 @@ module _ (ss : List ℕ) (j p w rest : ℕ) (out : List ℕ) (h : p < length ss)
   pub weight_pos : 0 < w / length (members (get_or ss p 0))
   weight_pos = subst (λ (x : ℕ). 0 < x) (sym weight_is) some_after
 
-  -- the move of role p
-  abbrev v : ℕ
-  v = get_or (members s) (rest / after) 16
-
-  parts' : decode ss j ≡ take (p + 1) (set out p v) ++ decode (drop (p + 1) ss) (rest % after)
-  unfolding decode
-  parts' =
-      m.parts
-      ∙ ap (λ (l : List ℕ). take p out ++ decode l rest) split
-      ∙ sym (append_assoc (take p out) (v ∷ []) (decode (drop (p + 1) ss) (rest % after)))
-      ∙ ap (λ (l : List ℕ). l ++ decode (drop (p + 1) ss) (rest % after)) (sym (ap (λ (k : ℕ). take k (set out p v)) (add-one p) ∙ take-suc-set out p v (omega (arith, m.long))))
-
-  tail' : drop (p + 1) (set out p v) ≡ replicate (4 - (p + 1)) 0
-  tail' =
-      let q : 4 - p ≡ suc (4 - (p + 1)) = omega arith in
-      drop-set-lt (p + 1) out p v (omega arith)
-      ∙ sym (drop-drop 1 p out)
-      ∙ ap (drop 1) (m.tail ∙ ap (λ (k : ℕ). replicate k 0) q)
-
-  pub turn : (x : ℕ) → x ≡ get_or (members (get_or ss p 0)) (rest / (w / length (members (get_or ss p 0)))) 16
-      → Mid ss j (p + 1) (w / length (members (get_or ss p 0))) (rest % (w / length (members (get_or ss p 0)))) (set out p x)
-  turn x e =
-      let f : x ≡ v = e ∙ ap (λ (k : ℕ). get_or (members s) (rest / k) 16) weight_is in
-      record {
-        long = length-set out p x ∙ m.long;
-        weight = weight_is;
-        below = mod-lt rest weight_pos;
-        parts = parts' ∙ ap₂ (λ (y k : ℕ). take (p + 1) (set out p y) ++ decode (drop (p + 1) ss) (rest % k)) (sym f) (sym weight_is);
-        tail = ap (λ (y : ℕ). drop (p + 1) (set out p y)) f ∙ tail';
-      }
-
 -- the same in the code's terms: the sets are the first `roles` of four, and n is what the count of ones gave
 module _ (sets : List ℕ) (roles j p w rest n : ℕ) (out : List ℕ) (long : length sets ≡ 4) (few : roles ≤ 4) (h : p < roles)
     (m : Mid (take roles sets) j p w rest out) (counted : n ≡ length (members (get_or sets p 0))) where
@@ -116,11 +85,6 @@ module _ (sets : List ℕ) (roles j p w rest n : ℕ) (out : List ℕ) (long : l
 
   pub pos_of : 0 < w / n
   pos_of = rw n_is at (weight_pos (take roles sets) j p w rest out in_range few_of m)
-
-  pub turn_of : (x : ℕ) → x ≡ get_or (members (get_or sets p 0)) (rest / (w / n)) 16 → Mid (take roles sets) j (p + 1) (w / n) (rest % (w / n)) (set out p x)
-  turn_of x e =
-      rw n_is at (turn (take roles sets) j p w rest out in_range few_of m x
-      (e ∙ ap₂ (λ (y k : ℕ). get_or (members y) (rest / (w / k)) 16) (sym (get_or-take roles sets p 0 h)) (sym n_is)))
 
 pub length_decode : (ss : List ℕ) (j : ℕ) → length (decode ss j) ≡ length ss
 unfolding decode
