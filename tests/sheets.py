@@ -59,16 +59,13 @@ CROSS = "x86_64-linux-gnu-gcc"
 
 def engine_for_x86_64(directory):
     """The command that runs the engine as the proved programs run: compiled
-    for x86-64, and where the machine is another under the kit's emulator, or
+    for x86-64, and where the machine is another under Debian's emulator, or
     under EMULATOR if that is set."""
     if platform.machine() == "x86_64":
         return [compile_engine(directory)]
     if shutil.which(CROSS) is None:
         sys.exit("there is no %s: install Debian's gcc-x86-64-linux-gnu and libc6-dev-amd64-cross" % CROSS)
-    guide = subprocess.run(["rt", "doc"], stdout=subprocess.PIPE, check=True, text=True).stdout.strip()
-    kit = os.path.dirname(os.path.dirname(guide))
-    emulator = os.path.join(kit, "on", platform.machine(), "toolchain", "bin", "qemu-x86_64")
-    words = shlex.split(os.environ.get("EMULATOR", "")) or [emulator]
+    words = shlex.split(os.environ.get("EMULATOR", "")) or ["qemu-x86_64"]
     return words + [compile_engine(directory, compiler=CROSS, more=["-static"])]
 
 
