@@ -1,6 +1,6 @@
 -- The NEXT rules filed by the moves that they wait for. A rule fires where its moves are made: they are then what the joint move has of the roles that the rule names. So for
 -- each set of roles, a kind of rules, one key is looked up, and what the live rules with that key give has been gathered beforehand.
-use Rattle.std.specs.Prelude.{ℕ, zero, suc, ◌+◌, ◌-◌, ◌*◌, ◌/◌, ◌%◌, ◌^◌, ◌≤◌, ◌<◌, max, ◌≡◌, Bool, cond, List, [], ◌∷◌, ◌++◌, eqb, get_or, length, take, set}
+use Rattle.std.specs.Prelude.{ℕ, zero, suc, ◌-◌, ◌*◌, ◌/◌, ◌%◌, ◌^◌, ◌≤◌, ◌<◌, max, ◌≡◌, Bool, cond, List, [], ◌∷◌, ◌++◌, eqb, get_or, length, take, set}
 use Rattle.std.specs.Int.Bits.{bit_and, bit_or, bit_xor}
 use Rattle.facts.specs.Bits.{has, insert}
 use Rattle.sheet.specs.Limits.{most_moves, most_rules}
