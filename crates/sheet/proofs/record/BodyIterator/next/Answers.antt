@@ -1,0 +1,13 @@
+-- `sheet::record::BodyIterator::next` meets its contract: three bytes are the next literal, fewer are none.
+use Rattle.std.proofs.Common.{rules, length, ap}
+use Rattle.sheet.proofs.Records.{parts_short, parts_next}
+use Rattle.sheet.proofs.record.BodyIterator.next.Goals as goal
+
+pub returns-in_default-clause-steps : goal.returns-in_default-clause-steps
+returns-in_default-clause-steps c = let none = parts_short _ c.in_default.len_below in (none, none)
+
+pub returns-clause-steps : goal.returns-clause-steps
+returns-clause-steps c = parts_next _ c.in-len3-up.len_at_least
+
+pub returns-clause-goes : goal.returns-clause-goes
+returns-clause-goes c = let shorter = ap length (parts_next c.args.self.now.bytes.now c.in-len3-up.len_at_least) in search rules
