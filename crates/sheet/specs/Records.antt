@@ -13,7 +13,7 @@ parts_of (k ∷ a ∷ []) = []
 parts_of (k ∷ a ∷ b ∷ s) = part k a b ∷ parts_of s
 
 -- The literals of a body that are left.
-abbrev pub literals : Body → List Part
+unfoldable pub literals : Body → List Part
 literals b = parts_of b.bytes.now
 
 -- A rule as data.
@@ -27,5 +27,5 @@ rules_in (suc n) (x ∷ y ∷ k ∷ a ∷ b ∷ m ∷ s) = record { head = part 
 rules_in (suc n) s = []
 
 -- The rules that are left.
-abbrev pub rules_of : Rules → List Rule
+unfoldable pub rules_of : Rules → List Rule
 rules_of r = rules_in r.left r.bytes.now

@@ -42,15 +42,11 @@ impl<'a> Iterator for Body<'a> {
     ghost remaining = { item_count literals };
 
     fn next(&mut self) -> Option<Part> {
-        let [kind, a, b, rest @ ..] = self.bytes else {
+        let &[kind, a, b, ref rest @ ..] = self.bytes else {
             return None;
         };
         self.bytes = rest;
-        Some(Part {
-            kind: *kind,
-            a: *a,
-            b: *b,
-        })
+        Some(Part { kind, a, b })
     }
 }
 
@@ -80,19 +76,15 @@ impl<'a> Iterator for Rules<'a> {
         if self.left == 0 {
             return None;
         }
-        let [_, _, kind, a, b, n, rest @ ..] = self.bytes else {
+        let &[_, _, kind, a, b, n, ref rest @ ..] = self.bytes else {
             return None;
         };
-        let size = 3 * usize::from(*n);
+        let size = 3 * usize::from(n);
         let (bytes, rest) = rest.split_at(size.min(rest.len()));
         self.bytes = rest;
         self.left -= 1;
         Some(Rule {
-            head: Part {
-                kind: *kind,
-                a: *a,
-                b: *b,
-            },
+            head: Part { kind, a, b },
             body: Body { bytes },
         })
     }
