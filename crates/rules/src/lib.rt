@@ -1,13 +1,15 @@
 // What the rules of the lent sheet give at a position: one literal, one body, one loop over the rules.
 #![tactic(auto)]
 
-ghost use Rattle.std.specs.Prelude.{◌≡◌, cond, ◌&&◌, ◌+◌, ◌*◌, ◌<◌, ◌≤◌, length};
-ghost use Rattle.sheet.specs.Data.{byte, part, part_at, body_from, rule_at, rules_from, rules_end};
+ghost use Rattle.std.specs.Prelude.{◌≡◌, unwrap_or};
+ghost use Rattle.sheet.specs.Records.{literals, rule_of, rules_of};
 ghost use Rattle.rules.specs.declared.Ask.TheVariants.{Legals};
 ghost use Rattle.rules.specs.Meaning.{doing, holds};
 ghost use Rattle.rules.specs.Rules.{fires, over, member_of, seen_by, added, gathered, does_of, does_set, is_terminal, is_goal, init_facts};
 
 use facts::FactSet;
+use sheet::record::{Body, Part, Rule, Rules};
+use sheet::{MOST_MOVES, MOST_ROLES};
 
 // What literals are read off: the facts and the views that hold, and each role's move.
 #[derive(Clone, Copy)]
@@ -36,55 +38,39 @@ pub fn wide(x: u8) -> usize
     x as usize
 }
 
-pub fn wide16(x: u8) -> u16
-    ensures { result ≡ x }
+// Does the role make the move?
+#[tactic(auto, using(std::proofs::lemmas::Bool::Decides::nat_tests), unfolding(crate::specs::Meaning::doing))]
+pub fn does(moves: [u16; 4], role: u8, made: u8) -> bool
+    ensures { result ≡ doing moves role made }
 {
-    x as u16
-}
-
-pub fn does(moves: [u16; 4], a: u8, b: u8) -> bool
-    ensures { result ≡ doing moves a b }
-{
-    let i = wide(a);
-    let m = wide16(b);
-    if i < 4 {
-        return moves[i] == m;
-    }
-    false
+    role < MOST_ROLES && moves[usize::from(role)] == u16::from(made)
 }
 
 // ---- one literal, one body
 
-pub fn literal_holds(s: &[u8], at: usize, k: Look) -> bool
-    requires { at + 3 ≤ length s.now }
-    ensures { result ≡ holds k (part_at s.now at) }
+// Is the literal true?
+#[tactic(auto, unfolding(crate::specs::Meaning::holds))]
+pub fn literal_holds(p: Part, k: Look) -> bool
+    ensures { result ≡ holds k p }
 {
-    let kind = s[at];
-    let a = s[at + 1];
-    let b = s[at + 2];
-    let moves = k.moves;
+    let Part { kind, a, b } = p;
     match kind {
         1 => k.facts.has(a),
         2 => !k.facts.has(a),
         3 => k.views.has(a),
         4 => !k.views.has(a),
-        5 => does(moves, a, b),
-        0 => false,
-        6..=255 => false,
+        5 => does(k.moves, a, b),
+        _ => false,
     }
 }
 
-pub fn body_holds(s: &[u8], from: usize, n: usize, k: Look) -> bool
-    requires { from + 3 * n ≤ length s.now }
-    ensures { result ≡ fires k (body_from s.now from n) }
+// Are all literals of the body true?
+#[tactic(auto, unfolding(crate::specs::Rules::fires))]
+pub fn body_holds(body: Body, k: Look) -> bool
+    ensures { result ≡ fires k (literals body.entry) }
 {
-    let mut at = from;
-    let mut left = n;
-    while 0 < left {
-        if literal_holds(s, at, k) {
-            at += 3;
-            left -= 1;
-        } else {
+    for literal in body {
+        if !literal_holds(literal, k) {
             return false;
         }
     }
@@ -93,52 +79,31 @@ pub fn body_holds(s: &[u8], from: usize, n: usize, k: Look) -> bool
 
 // ---- one rule
 
-pub fn both(a: bool, b: bool) -> bool
-    ensures { result ≡ (a && b) }
+// The place of a role's move among those of all roles, where the head is LEGAL of a role and a move.
+pub fn place(head: Part) -> Option<u8>
+    ensures { unwrap_or result 64 ≡ member_of Legals head }
 {
-    if a {
-        return b;
+    let Part { kind, a, b } = head;
+    if kind == 4 && a < MOST_ROLES && b < MOST_MOVES {
+        Some(MOST_MOVES * a + b)
+    } else {
+        None
     }
-    false
 }
 
-pub fn pick(on: bool, i: u8) -> u8
-    ensures { result ≡ cond on i 64 }
+// The member for which a head stands in the set that is asked for; a field of 64 or more is a member of no set.
+pub fn member(q: Ask, head: Part) -> Option<u8>
+    ensures { unwrap_or result 64 ≡ member_of q head }
 {
-    if on {
-        return i;
-    }
-    64
-}
-
-// The place of a role's move among those of all roles, 64 where the head is no LEGAL of a role and a move.
-pub fn place(kind: u8, a: u8, b: u8) -> u8
-    ensures { result ≡ member_of Legals (part kind a b) }
-{
-    if kind != 4 {
-        return 64;
-    }
-    if a < 4 {
-        if b < 16 {
-            return 16 * a + b;
-        }
-        return 64;
-    }
-    64
-}
-
-// The member for which a head stands in the set that is asked for; 64 for none.
-pub fn member(q: Ask, kind: u8, a: u8, b: u8) -> u8
-    ensures { result ≡ member_of q (part kind a b) }
-{
+    let Part { kind, a, b } = head;
     match q {
-        Ask::Init => pick(kind == 1, a),
-        Ask::Next => pick(kind == 2, a),
-        Ask::View(only) => pick(both(kind == 3, only.has(a)), a),
-        Ask::Legal(role) => pick(both(kind == 4, both(a == role, b < 16)), b),
-        Ask::Goal(role, value) => pick(both(kind == 5, both(a == role, b == value)), 0),
-        Ask::Terminal => pick(kind == 6, 0),
-        Ask::Legals => place(kind, a, b),
+        Ask::Init => (kind == 1).then_some(a),
+        Ask::Next => (kind == 2).then_some(a),
+        Ask::View(only) => (kind == 3 && only.has(a)).then_some(a),
+        Ask::Legal(role) => (kind == 4 && a == role && b < MOST_MOVES).then_some(b),
+        Ask::Goal(role, value) => (kind == 5 && a == role && b == value).then_some(0),
+        Ask::Terminal => (kind == 6).then_some(0),
+        Ask::Legals => place(head),
     }
 }
 
@@ -147,163 +112,111 @@ pub fn seen(q: Ask, views: FactSet, x: FactSet) -> FactSet
     ensures { result.bits ≡ seen_by q views.bits x.bits }
 {
     match q {
-        Ask::Init => views,
-        Ask::Next => views,
-        Ask::View(only) => x,
-        Ask::Legal(role) => views,
-        Ask::Goal(role, value) => views,
-        Ask::Terminal => views,
-        Ask::Legals => views,
+        Ask::View(_) => x,
+        _ => views,
     }
 }
 
-// x, with what the rule at an offset adds.
-pub fn adds(s: &[u8], at: usize, q: Ask, k: Look, x: FactSet) -> FactSet
-    requires { at + (6 + 3 * byte s.now (at + 5)) ≤ length s.now }
-    ensures { result.bits ≡ added q k (rule_at s.now at) x.bits }
+// x, with what the rule adds.
+#[tactic(auto, using(std::proofs::lemmas::Bool::Decides::nat_tests), unfolding(crate::specs::Rules::added))]
+pub fn adds(rule: Rule, q: Ask, k: Look, x: FactSet) -> FactSet
+    ensures { result.bits ≡ added q k (rule_of rule.entry) x.bits }
 {
-    let head = at + 2;
-    let m = member(q, s[head], s[head + 1], s[head + 2]);
-    if m < 64 {
-        let facts = k.facts;
-        let held = k.views;
-        let moves = k.moves;
-        let views = seen(q, held, x);
-        let n = wide(s[at + 5]);
-        let look = Look {
-            facts,
-            views,
-            moves,
-        };
-        if body_holds(s, at + 6, n, look) {
-            return x.with(m);
-        }
+    let views = seen(q, k.views, x);
+    let look = Look { views, ..k };
+    match member(q, rule.head) {
+        Some(m) if m < 64 && body_holds(rule.body, look) => x.with(m),
+        _ => x,
     }
-    x
-}
-
-// The length of the rule at an offset.
-pub fn rule_length(s: &[u8], at: usize) -> usize
-    requires { at + 6 ≤ length s.now }
-    ensures { result ≡ 6 + 3 * byte s.now (at + 5) }
-{
-    6 + 3 * wide(s[at + 5])
 }
 
 // ---- once over the rules
 
-pub fn gather(s: &[u8], first: usize, n: usize, q: Ask, k: Look, start: FactSet) -> FactSet
-    requires { rules_end s.now first n ≤ length s.now }
-    ensures { result.bits ≡ gathered q k (rules_from s.now first n) start.bits }
+// `start`, with what all rules add.
+#[tactic(auto, unfolding(crate::specs::Rules::gathered))]
+pub fn gather(rules: Rules, q: Ask, k: Look, start: FactSet) -> FactSet
+    ensures { result.bits ≡ gathered q k (rules_of rules.entry) start.bits }
 {
-    let mut at = first;
-    let mut left = n;
     let mut x = start;
-    while 0 < left {
-        x = adds(s, at, q, k, x);
-        at += rule_length(s, at);
-        left -= 1;
+    for rule in rules {
+        x = adds(rule, q, k, x);
     }
     x
 }
 
 // ---- what a position gives
 
-pub fn is_terminal(s: &[u8], first: usize, n: usize, k: Look) -> bool
-    requires { rules_end s.now first n ≤ length s.now }
-    ensures { result ≡ is_terminal (rules_from s.now first n) k }
+// Is the position the end of a game?
+#[tactic(auto, unfolding(crate::specs::Rules::is_terminal))]
+pub fn is_terminal(rules: Rules, k: Look) -> bool
+    ensures { result ≡ is_terminal (rules_of rules.entry) k }
 {
-    let empty = FactSet { bits: 0 };
-    gather(s, first, n, Ask::Terminal, k, empty).number() != 0
+    gather(rules, Ask::Terminal, k, FactSet::of(0)).number() != 0
 }
 
-pub fn is_goal(s: &[u8], first: usize, n: usize, k: Look, role: u8, value: u8) -> bool
-    requires { rules_end s.now first n ≤ length s.now }
-    ensures { result ≡ is_goal (rules_from s.now first n) k role value }
+// Has the role the goal value?
+#[tactic(auto, unfolding(crate::specs::Rules::is_goal))]
+pub fn is_goal(rules: Rules, k: Look, role: u8, value: u8) -> bool
+    ensures { result ≡ is_goal (rules_of rules.entry) k role value }
 {
-    let empty = FactSet { bits: 0 };
-    gather(s, first, n, Ask::Goal(role, value), k, empty).number() != 0
+    gather(rules, Ask::Goal(role, value), k, FactSet::of(0)).number() != 0
 }
 
 // State 0.
-pub fn init_facts(s: &[u8], first: usize, n: usize) -> FactSet
-    requires { rules_end s.now first n ≤ length s.now }
-    ensures { result.bits ≡ init_facts (rules_from s.now first n) }
+#[tactic(auto, unfolding(crate::specs::Rules::init_facts))]
+pub fn init_facts(rules: Rules) -> FactSet
+    ensures { result.bits ≡ init_facts (rules_of rules.entry) }
 {
-    let empty = FactSet { bits: 0 };
-    let k = Look {
+    let empty = FactSet::of(0);
+    let nothing = Look {
         facts: empty,
         views: empty,
         moves: [0; 4],
     };
-    gather(s, first, n, Ask::Init, k, empty)
+    gather(rules, Ask::Init, nothing, empty)
 }
 
 // ---- moves
 
 // x, with the literal's move where it is DOES of this role.
-pub fn does_at(s: &[u8], at: usize, role: u8, x: FactSet) -> FactSet
-    requires { at + 3 ≤ length s.now }
-    ensures { result.bits ≡ does_of role (part_at s.now at) x.bits }
+#[tactic(auto, using(std::proofs::lemmas::Bool::Decides::nat_tests), unfolding(crate::specs::Rules::does_of))]
+pub fn does_at(p: Part, role: u8, x: FactSet) -> FactSet
+    ensures { result.bits ≡ does_of role p x.bits }
 {
-    let b = s[at + 2];
-    if s[at] != 5 {
-        return x;
+    if p.kind == 5 && p.a == role && p.b < MOST_MOVES {
+        x.with(p.b)
+    } else {
+        x
     }
-    if s[at + 1] != role {
-        return x;
-    }
-    if b < 16 {
-        return x.with(b);
-    }
-    x
 }
 
-pub fn does_in(s: &[u8], from: usize, n: usize, role: u8, start: FactSet) -> FactSet
-    requires { from + 3 * n ≤ length s.now }
-    ensures { result.bits ≡ over (does_of role) (body_from s.now from n) start.bits }
+// `start`, with the moves that occur with a role in some DOES of the body.
+pub fn does_in(body: Body, role: u8, start: FactSet) -> FactSet
+    ensures { result.bits ≡ over (does_of role) (literals body.entry) start.bits }
 {
-    let mut at = from;
-    let mut left = n;
     let mut x = start;
-    while 0 < left {
-        x = does_at(s, at, role, x);
-        at += 3;
-        left -= 1;
+    for literal in body {
+        x = does_at(literal, role, x);
     }
     x
-}
-
-// x, with the moves that occur with a role in some DOES of the rule at an offset.
-pub fn rule_does(s: &[u8], at: usize, role: u8, x: FactSet) -> FactSet
-    requires { at + (6 + 3 * byte s.now (at + 5)) ≤ length s.now }
-    ensures { result.bits ≡ over (does_of role) (rule_at s.now at).body x.bits }
-{
-    let n = wide(s[at + 5]);
-    does_in(s, at + 6, n, role, x)
 }
 
 // The moves that occur with a role in some DOES of the sheet.
-pub fn does_set(s: &[u8], first: usize, n: usize, role: u8) -> FactSet
-    requires { rules_end s.now first n ≤ length s.now }
-    ensures { result.bits ≡ does_set role (rules_from s.now first n) 0 }
+#[tactic(auto, unfolding(crate::specs::Rules::does_set))]
+pub fn does_set(rules: Rules, role: u8) -> FactSet
+    ensures { result.bits ≡ does_set role (rules_of rules.entry) 0 }
 {
-    let mut at = first;
-    let mut left = n;
-    let mut x = FactSet { bits: 0 };
-    while 0 < left {
-        x = rule_does(s, at, role, x);
-        at += rule_length(s, at);
-        left -= 1;
+    let mut x = FactSet::of(0);
+    for rule in rules {
+        x = does_in(rule.body, role, x);
     }
     x
 }
 
 // The same as a sixteen-bit set.
-pub fn role_moves(s: &[u8], first: usize, n: usize, role: u8) -> u16
-    requires { rules_end s.now first n ≤ length s.now }
-    ensures { result ≡ does_set role (rules_from s.now first n) 0 }
+#[tactic(auto, using(crate::proofs::Laws::does_lt))]
+pub fn role_moves(rules: Rules, role: u8) -> u16
+    ensures { result ≡ does_set role (rules_of rules.entry) 0 }
 {
-    let x = does_set(s, first, n, role);
-    x.number() as u16
+    does_set(rules, role).number() as u16
 }
