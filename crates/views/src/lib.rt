@@ -1,268 +1,208 @@
 // The views of the lent sheet: which views each leads to, the views of each level, and refusal 5.
 #![tactic(auto)]
 
-ghost use Rattle.std.specs.Prelude.{◌≡◌, cond, map, ◌+◌, ◌*◌, ◌<◌, ◌≤◌, length, get_or};
-ghost use Rattle.sheet.specs.Data.{byte, part_at, body_from, rule_at, rules_from, rules_end};
+ghost use Rattle.std.specs.Prelude.{◌≡◌, ◌&&◌, ◌<◌, map, get_or, eqb};
+ghost use Rattle.sheet.specs.Records.{literals, rule_of, rules_of};
+ghost use Rattle.rules.specs.Kinds as kind;
 ghost use Rattle.rules.specs.Rules.{over};
-ghost use Rattle.views.specs.Meaning.{literal_of, body_of, view_rules};
+ghost use Rattle.views.specs.Meaning.{literal_of, body_of, view_rule, view_rules};
 ghost use Rattle.views.specs.Reference.{listed, name_of, row_of, row, rows, join, close, back_to, any, on_chain, closed, lowest};
 ghost use Rattle.views.specs.Sheet.{viewed, reach_of, mask_at, masks_of, answer_of, answer};
 
 use facts::FactSet;
-use rules::{rule_length, wide};
+use sheet::MOST_VIEWS;
+use sheet::record::{Body, Part, Rule, Rules};
 
-// Are the VIEW rules stratified? If not, the lowest view on a closed chain with a NOT in it.
-#[derive(Clone, Copy)]
-pub enum Strata {
-    Stratified,
-    NotStratified(u8),
+// The VIEW rules are not stratified: the lowest view on a closed chain with a NOT in it.
+#[derive(Clone, Copy, PartialEq, Eq)]
+pub struct Unstratified {
+    pub view: u8,
 }
 
 // ---- the rows: which views each view leads to
 
 // x, with the view that the literal names.
-pub fn name_at(s: &[u8], at: usize, x: FactSet) -> FactSet
-    requires { at + 3 ≤ length s.now }
-    ensures { result.bits ≡ name_of 64 (literal_of (part_at s.now at)) x.bits }
+#[tactic(auto, using(std::proofs::lemmas::Bool::Decides::nat_tests), unfolding(crate::specs::Reference::name_of, crate::specs::Reference::put))]
+pub fn name_at(p: Part, x: FactSet) -> FactSet
+    ensures { result.bits ≡ name_of 64 (literal_of p) x.bits }
 {
-    let kind = s[at];
-    let a = s[at + 1];
-    if kind < 3 {
-        return x;
+    match p.kind {
+        3 | 4 if p.a < MOST_VIEWS => x.with(p.a),
+        _ => x,
     }
-    if 4 < kind {
-        return x;
-    }
-    if a < 64 {
-        return x.with(a);
-    }
-    x
 }
 
-pub fn names_in(s: &[u8], from: usize, n: usize, start: FactSet) -> FactSet
-    requires { from + 3 * n ≤ length s.now }
-    ensures { result.bits ≡ over (name_of 64) (body_of (body_from s.now from n)) start.bits }
+// `start`, with the views that the body names.
+pub fn names_in(body: Body, start: FactSet) -> FactSet
+    ensures { result.bits ≡ over (name_of 64) (body_of (literals body.entry)) start.bits }
 {
-    let mut at = from;
-    let mut left = n;
     let mut x = start;
-    while 0 < left {
-        x = name_at(s, at, x);
-        at += 3;
-        left -= 1;
+    for literal in body {
+        x = name_at(literal, x);
     }
     x
 }
 
 // x, with the views that the rule names where it is one for v.
-pub fn rule_row(s: &[u8], at: usize, v: u8, x: FactSet) -> FactSet
-    requires { at + (6 + 3 * byte s.now (at + 5)) ≤ length s.now }
-    ensures { result.bits ≡ viewed (row_of 64 v) (rule_at s.now at) x.bits }
+#[tactic(auto, using(std::proofs::lemmas::Bool::Decides::nat_tests), unfolding(crate::specs::Reference::row_of))]
+pub fn rule_row(rule: Rule, v: u8, x: FactSet) -> FactSet
+    ensures { result.bits ≡ viewed (row_of 64 v) (rule_of rule.entry) x.bits }
 {
-    let head = at + 2;
-    if s[head] != 3 {
-        return x;
+    if rule.head.kind == 3 && rule.head.a == v {
+        names_in(rule.body, x)
+    } else {
+        x
     }
-    if s[head + 1] != v {
-        return x;
-    }
-    let n = wide(s[at + 5]);
-    names_in(s, at + 6, n, x)
 }
 
 // The view v, and the views that its rules name.
-pub fn row_of(s: &[u8], first: usize, n: usize, v: u8) -> FactSet
-    requires { (rules_end s.now first n ≤ length s.now) × (v < 64) }
-    ensures { result.bits ≡ row 64 (view_rules (rules_from s.now first n)) v }
+#[tactic(auto, using(crate::proofs::Lists::over_views), unfolding(crate::specs::Reference::row))]
+pub fn row_of(rules: Rules, v: u8) -> FactSet
+    requires { v < 64 }
+    ensures { result.bits ≡ row 64 (view_rules (rules_of rules.entry)) v }
 {
-    let mut at = first;
-    let mut left = n;
-    let empty = FactSet { bits: 0 };
-    let mut x = empty.with(v);
-    while 0 < left {
-        x = rule_row(s, at, v, x);
-        at += rule_length(s, at);
-        left -= 1;
+    let mut x = FactSet::of(0).with(v);
+    for rule in rules {
+        x = rule_row(rule, v, x);
     }
     x
 }
 
-pub fn rows_of(s: &[u8], first: usize, n: usize, q: &mut [u64; 64])
-    requires { (rules_end s.now first n ≤ length s.now) × (length q.old ≡ 64) }
-    ensures { q.new ≡ rows 64 (view_rules (rules_from s.now first n)) }
+// A row for each view.
+pub fn rows_of(rules: Rules, q: &mut [u64; 64])
+    ensures { q.new ≡ rows 64 (view_rules (rules_of rules.entry)) }
 {
-    let mut i: usize = 0;
-    while i < 64 {
-        let v = i as u8;
-        q[i] = row_of(s, first, n, v).number();
-        i += 1;
+    for v in 0..MOST_VIEWS {
+        q[usize::from(v)] = row_of(rules, v).number();
     }
 }
 
 // The row r, with all of row k where k is in it.
+#[tactic(auto, using(std::proofs::lemmas::Bool::Decides::nat_tests), unfolding(crate::specs::Reference::join))]
 pub fn joined(k: usize, rk: u64, r: u64) -> u64
     requires { k < 64 }
     ensures { result ≡ join k rk r }
 {
-    if (r >> k) % 2 == 1 {
-        return r | rk;
-    }
-    r
+    if (r >> k) % 2 == 1 { r | rk } else { r }
 }
 
+// Each row, with all of row k where k is in it.
 pub fn round(q: &mut [u64; 64], k: usize)
-    requires { (k < 64) × (length q.old ≡ 64) }
+    requires { k < 64 }
     ensures { q.new ≡ map (join k (get_or q.old k 0)) q.old }
 {
     let rk = q[k];
-    let mut i = 0;
-    while i < 64 {
-        q[i] = joined(k, rk, q[i]);
-        i += 1;
+    for r in q.iter_mut() {
+        *r = joined(k, rk, *r);
     }
 }
 
+// The rows, closed: all views to which a chain leads.
+#[tactic(auto, using(crate::proofs::Laws::close_next))]
 pub fn closure(q: &mut [u64; 64])
-    requires { length q.old ≡ 64 }
     ensures { q.new ≡ close 64 q.old }
 {
-    let mut k = 0;
-    while k < 64 {
+    for k in 0..64 {
         round(q, k);
-        k += 1;
     }
 }
 
 // ---- the levels
 
 // The views whose row has c ones.
+#[tactic(auto, using(std::proofs::lemmas::Bool::Decides::nat_tests, crate::proofs::Laws::pack_more))]
 pub fn mask_of(q: &[u64; 64], c: u32) -> FactSet
     ensures { result.bits ≡ mask_at q.now c }
 {
-    let mut x = FactSet { bits: 0 };
-    let mut v: u8 = 0;
-    while v < 64 {
-        let i = wide(v);
-        if u64::count_ones(q[i]) == c {
+    let mut x = FactSet::of(0);
+    for v in 0..MOST_VIEWS {
+        if q[usize::from(v)].count_ones() == c {
             x = x.with(v);
         }
-        v += 1;
     }
     x
 }
 
 // The views of each level, from the closed rows.
 pub fn masks_of(q: &[u64; 64], t: &mut [u64; 64])
-    requires { length t.old ≡ 64 }
     ensures { t.new ≡ listed (mask_at q.now) 64 1 }
 {
-    let mut i: usize = 0;
-    while i < 64 {
-        let c = (i + 1) as u32;
-        t[i] = mask_of(q, c).number();
-        i += 1;
+    for i in 0..MOST_VIEWS {
+        t[usize::from(i)] = mask_of(q, u32::from(i) + 1).number();
     }
 }
 
 // ---- refusal 5
 
-// 1 where the literal is a NOT of a view that leads to v, or else x.
-pub fn back_at(s: &[u8], at: usize, q: &[u64; 64], v: u8, x: u64) -> u64
-    requires { (at + 3 ≤ length s.now) × (length q.now ≡ 64) }
-    ensures { result ≡ cond (back_to q.now v (literal_of (part_at s.now at))) 1 x }
+// Is the literal a NOT of a view that leads to v?
+#[tactic(auto, using(std::proofs::lemmas::Bool::Decides::nat_tests, crate::proofs::Laws::beyond), unfolding(crate::specs::Reference::back_to))]
+pub fn back_at(p: Part, q: &[u64; 64], v: u8) -> bool
+    ensures { result ≡ back_to q.now v (literal_of p) }
 {
-    let a = wide(s[at + 1]);
-    if s[at] != 4 {
-        return x;
+    match p.kind {
+        4 if p.a < MOST_VIEWS => FactSet::of(q[usize::from(p.a)]).has(v),
+        _ => false,
     }
-    if a < 64 {
-        let w = FactSet { bits: q[a] };
-        if w.has(v) {
-            return 1;
-        }
-        return x;
-    }
-    x
 }
 
 // Does a NOT of the body lead back to v?
-pub fn backs_in(s: &[u8], from: usize, n: usize, q: &[u64; 64], v: u8) -> bool
-    requires { (from + 3 * n ≤ length s.now) × (length q.now ≡ 64) }
-    ensures { result ≡ any (back_to q.now v) (body_of (body_from s.now from n)) }
+pub fn backs_in(body: Body, q: &[u64; 64], v: u8) -> bool
+    ensures { result ≡ any (back_to q.now v) (body_of (literals body.entry)) }
 {
-    let mut at = from;
-    let mut left = n;
-    let mut x: u64 = 0;
-    while 0 < left {
-        x = back_at(s, at, q, v, x);
-        at += 3;
-        left -= 1;
+    for literal in body {
+        if back_at(literal, q, v) {
+            return true;
+        }
     }
-    x == 1
+    false
 }
 
-// 1 where v leads to the rule's head and a NOT of its body back to v, or else x.
-pub fn rule_closed(s: &[u8], at: usize, q: &[u64; 64], v: u8, x: u64) -> u64
-    requires { (at + (6 + 3 * byte s.now (at + 5)) ≤ length s.now) × (v < 64) × (length q.now ≡ 64) }
-    ensures { result ≡ viewed (λ p y. cond (on_chain q.now v p) 1 y) (rule_at s.now at) x }
+// Is it a VIEW rule to whose head v leads, with a NOT in its body that leads back to v?
+#[tactic(auto, using(std::proofs::lemmas::Bool::Decides::nat_tests), unfolding(crate::specs::Reference::on_chain))]
+pub fn rule_closed(rule: Rule, q: &[u64; 64], v: u8) -> bool
+    requires { v < 64 }
+    ensures { result ≡ (eqb rule.entry.head.kind kind.VIEW && on_chain q.now v (view_rule (rule_of rule.entry))) }
 {
-    let head = at + 2;
-    if s[head] != 3 {
-        return x;
-    }
-    let i = wide(v);
-    let w = FactSet { bits: q[i] };
-    if w.has(s[head + 1]) {
-        let n = wide(s[at + 5]);
-        if backs_in(s, at + 6, n, q, v) {
-            return 1;
-        }
-        return x;
-    }
-    x
+    rule.head.kind == 3
+        && FactSet::of(q[usize::from(v)]).has(rule.head.a)
+        && backs_in(rule.body, q, v)
 }
 
 // Is v on a closed chain with a NOT in it?
-pub fn closed_at(s: &[u8], first: usize, n: usize, q: &[u64; 64], v: u8) -> bool
-    requires { (rules_end s.now first n ≤ length s.now) × (v < 64) × (length q.now ≡ 64) }
-    ensures { result ≡ closed q.now (view_rules (rules_from s.now first n)) v }
+#[tactic(auto, using(crate::proofs::Laws::any_views), unfolding(crate::specs::Reference::closed))]
+pub fn closed_at(rules: Rules, q: &[u64; 64], v: u8) -> bool
+    requires { v < 64 }
+    ensures { result ≡ closed q.now (view_rules (rules_of rules.entry)) v }
 {
-    let mut at = first;
-    let mut left = n;
-    let mut x: u64 = 0;
-    while 0 < left {
-        x = rule_closed(s, at, q, v, x);
-        at += rule_length(s, at);
-        left -= 1;
+    for rule in rules {
+        if rule_closed(rule, q, v) {
+            return true;
+        }
     }
-    x == 1
+    false
 }
 
 // The lowest view on a closed chain with a NOT in it, by the closed rows.
-pub fn refused_at(s: &[u8], first: usize, n: usize, q: &[u64; 64]) -> Strata
-    requires { (rules_end s.now first n ≤ length s.now) × (length q.now ≡ 64) }
-    ensures { result ≡ answer_of (lowest (closed q.now (view_rules (rules_from s.now first n))) 64 0) }
+#[tactic(auto, using(crate::proofs::Laws::lowest_here, crate::proofs::Laws::lowest_on, crate::proofs::Laws::lowest_out))]
+pub fn refused_at(rules: Rules, q: &[u64; 64]) -> Result<(), Unstratified>
+    ensures { result ≡ answer_of (lowest (closed q.now (view_rules (rules_of rules.entry))) 64 0) }
 {
-    let mut i: usize = 0;
-    while i < 64 {
-        let view = i as u8;
-        if closed_at(s, first, n, q, view) {
-            return Strata::NotStratified(view);
+    for view in 0..MOST_VIEWS {
+        if closed_at(rules, q, view) {
+            return Err(Unstratified { view });
         }
-        i += 1;
     }
-    Strata::Stratified
+    Ok(())
 }
 
 // The closed rows, the views of each level, and the answer to refusal 5.
-pub fn study(s: &[u8], first: usize, n: usize, q: &mut [u64; 64], t: &mut [u64; 64]) -> Strata
-    requires { (rules_end s.now first n ≤ length s.now) × (length q.old ≡ 64) × (length t.old ≡ 64) }
-    ensures rows { q.new ≡ reach_of (rules_from s.now first n) }
-    ensures levels { t.new ≡ masks_of (rules_from s.now first n) }
-    ensures place { result ≡ answer (rules_from s.now first n) }
+pub fn study(rules: Rules, q: &mut [u64; 64], t: &mut [u64; 64]) -> Result<(), Unstratified>
+    ensures rows { q.new ≡ reach_of (rules_of rules.entry) }
+    ensures levels { t.new ≡ masks_of (rules_of rules.entry) }
+    ensures place { result ≡ answer (rules_of rules.entry) }
 {
-    rows_of(s, first, n, q);
+    rows_of(rules, q);
     closure(q);
     masks_of(q, t);
-    refused_at(s, first, n, q)
+    refused_at(rules, q)
 }

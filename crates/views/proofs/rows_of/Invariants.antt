@@ -1,14 +1,9 @@
--- `rows_of` meets its contract. The first i rows are filled.
-use Prim.Native.Nat.{◌-◌, ◌≤◌}
-use mathlib.Core.Path.{◌≡◌}
-use Rattle.sheet.specs.Data.{rules_from}
+-- `rows_of` meets its contract. The rows of the views below v are filled.
+use Rattle.std.proofs.Common.{◌≡◌, ℕ, ◌<◌, length, get_or}
+use Rattle.sheet.specs.Records.{rules_of}
 use Rattle.views.specs.Meaning.{view_rules}
 use Rattle.views.specs.Reference.{row}
-use Rattle.views.proofs.Laws.{fill_to}
 use Rattle.views.proofs.rows_of.Given as goal
 
-abbrev pub invariant-loop-i : goal.invariant-loop-i
-invariant-loop-i l = (l.i ≤ 64) × (l.q ≡ fill_to l.i 0 (row 64 (view_rules (rules_from l.s l.first l.n))) l.initial.q)
-
-abbrev pub decreases-loop-i : goal.decreases-loop-i
-decreases-loop-i l = 64 - l.i
+abbrev pub invariant-loop-v : goal.invariant-loop-v
+invariant-loop-v l = (length l.q ≡ 64) × ((k : ℕ) → k < l.v → get_or l.q k 0 ≡ row 64 (view_rules (rules_of l.rules)) k)
