@@ -2,6 +2,7 @@
 #![tactic(auto)]
 
 ghost use Rattle.std.specs.Prelude.{◌≡◌, ◌&&◌, ◌<◌, map, get_or, eqb};
+ghost use Rattle.facts.specs.Bits.{has};
 ghost use Rattle.sheet.specs.Records.{literals, rule_of, rules_of};
 ghost use Rattle.rules.specs.Kinds as kind;
 ghost use Rattle.rules.specs.Rules.{over};
@@ -134,15 +135,20 @@ pub fn masks_of(q: &[u64; 64], t: &mut [u64; 64])
 
 // ---- refusal 5
 
+// Does v lead to w, by the closed rows? No view from 64 on leads anywhere.
+#[tactic(auto, using(std::proofs::lemmas::Bool::Decides::nat_tests, crate::proofs::Laws::beyond))]
+fn leads(q: &[u64; 64], v: u8, w: u8) -> bool
+    ensures { result ≡ has (get_or q.now v 0) w }
+{
+    v < MOST_VIEWS && FactSet::of(q[usize::from(v)]).has(w)
+}
+
 // Is the literal a NOT of a view that leads to v?
-#[tactic(auto, using(std::proofs::lemmas::Bool::Decides::nat_tests, crate::proofs::Laws::beyond), unfolding(crate::specs::Reference::back_to))]
+#[tactic(auto, using(std::proofs::lemmas::Bool::Decides::nat_tests), unfolding(crate::specs::Reference::back_to))]
 pub fn back_at(p: Part, q: &[u64; 64], v: u8) -> bool
     ensures { result ≡ back_to q.now v (literal_of p) }
 {
-    match p.kind {
-        4 if p.a < MOST_VIEWS => FactSet::of(q[usize::from(p.a)]).has(v),
-        _ => false,
-    }
+    p.kind == 4 && leads(q, p.a, v)
 }
 
 // Does a NOT of the body lead back to v?
@@ -160,18 +166,14 @@ pub fn backs_in(body: Body, q: &[u64; 64], v: u8) -> bool
 // Is it a VIEW rule to whose head v leads, with a NOT in its body that leads back to v?
 #[tactic(auto, using(std::proofs::lemmas::Bool::Decides::nat_tests), unfolding(crate::specs::Reference::on_chain))]
 pub fn rule_closed(rule: Rule, q: &[u64; 64], v: u8) -> bool
-    requires { v < 64 }
     ensures { result ≡ (eqb rule.entry.head.kind kind.VIEW && on_chain q.now v (view_rule (rule_of rule.entry))) }
 {
-    rule.head.kind == 3
-        && FactSet::of(q[usize::from(v)]).has(rule.head.a)
-        && backs_in(rule.body, q, v)
+    rule.head.kind == 3 && leads(q, v, rule.head.a) && backs_in(rule.body, q, v)
 }
 
 // Is v on a closed chain with a NOT in it?
 #[tactic(auto, using(crate::proofs::Laws::any_views), unfolding(crate::specs::Reference::closed))]
 pub fn closed_at(rules: Rules, q: &[u64; 64], v: u8) -> bool
-    requires { v < 64 }
     ensures { result ≡ closed q.now (view_rules (rules_of rules.entry)) v }
 {
     for rule in rules {
