@@ -7,7 +7,10 @@ ghost use Rattle.rules.specs.declared.Ask.TheVariants.{Legals};
 ghost use Rattle.rules.specs.Meaning.{doing, holds};
 ghost use Rattle.rules.specs.Rules.{fires, over, member_of, seen_by, added, gathered, does_of, does_set, is_terminal, is_goal, init_facts};
 
+pub mod kinds;
+
 use facts::FactSet;
+use kinds::{DOES, GOAL, INIT, LEGAL, NEXT, NOT_TRUE, NOT_VIEW, TERMINAL, TRUE, VIEW};
 use sheet::record::{Body, Part, Rule, Rules};
 use sheet::{MOST_MOVES, MOST_ROLES};
 
@@ -55,11 +58,11 @@ pub fn literal_holds(p: Part, k: Look) -> bool
 {
     let Part { kind, a, b } = p;
     match kind {
-        1 => k.facts.has(a),
-        2 => !k.facts.has(a),
-        3 => k.views.has(a),
-        4 => !k.views.has(a),
-        5 => does(k.moves, a, b),
+        TRUE => k.facts.has(a),
+        NOT_TRUE => !k.facts.has(a),
+        VIEW => k.views.has(a),
+        NOT_VIEW => !k.views.has(a),
+        DOES => does(k.moves, a, b),
         _ => false,
     }
 }
@@ -84,7 +87,7 @@ pub fn place(head: Part) -> Option<u8>
     ensures { unwrap_or result 64 ≡ member_of Legals head }
 {
     let Part { kind, a, b } = head;
-    if kind == 4 && a < MOST_ROLES && b < MOST_MOVES {
+    if kind == LEGAL && a < MOST_ROLES && b < MOST_MOVES {
         Some(MOST_MOVES * a + b)
     } else {
         None
@@ -97,12 +100,12 @@ pub fn member(q: Ask, head: Part) -> Option<u8>
 {
     let Part { kind, a, b } = head;
     match q {
-        Ask::Init => (kind == 1).then_some(a),
-        Ask::Next => (kind == 2).then_some(a),
-        Ask::View(only) => (kind == 3 && only.has(a)).then_some(a),
-        Ask::Legal(role) => (kind == 4 && a == role && b < MOST_MOVES).then_some(b),
-        Ask::Goal(role, value) => (kind == 5 && a == role && b == value).then_some(0),
-        Ask::Terminal => (kind == 6).then_some(0),
+        Ask::Init => (kind == INIT).then_some(a),
+        Ask::Next => (kind == NEXT).then_some(a),
+        Ask::View(only) => (kind == VIEW && only.has(a)).then_some(a),
+        Ask::Legal(role) => (kind == LEGAL && a == role && b < MOST_MOVES).then_some(b),
+        Ask::Goal(role, value) => (kind == GOAL && a == role && b == value).then_some(0),
+        Ask::Terminal => (kind == TERMINAL).then_some(0),
         Ask::Legals => place(head),
     }
 }
@@ -183,7 +186,7 @@ pub fn init_facts(rules: Rules) -> FactSet
 pub fn does_at(p: Part, role: u8, x: FactSet) -> FactSet
     ensures { result.bits ≡ does_of role p x.bits }
 {
-    if p.kind == 5 && p.a == role && p.b < MOST_MOVES {
+    if p.kind == DOES && p.a == role && p.b < MOST_MOVES {
         x.with(p.b)
     } else {
         x

@@ -11,6 +11,7 @@ ghost use Rattle.views.specs.Reference.{listed, name_of, row_of, row, rows, join
 ghost use Rattle.views.specs.Sheet.{viewed, reach_of, mask_at, masks_of, answer_of, answer};
 
 use facts::FactSet;
+use rules::kinds::{NOT_VIEW, VIEW};
 use sheet::MOST_VIEWS;
 use sheet::record::{Body, Part, Rule, Rules};
 
@@ -28,7 +29,7 @@ pub fn name_at(p: Part, x: FactSet) -> FactSet
     ensures { result.bits ≡ name_of 64 (literal_of p) x.bits }
 {
     match p.kind {
-        3 | 4 if p.a < MOST_VIEWS => x.with(p.a),
+        VIEW | NOT_VIEW if p.a < MOST_VIEWS => x.with(p.a),
         _ => x,
     }
 }
@@ -49,7 +50,7 @@ pub fn names_in(body: Body, start: FactSet) -> FactSet
 pub fn rule_row(rule: Rule, v: u8, x: FactSet) -> FactSet
     ensures { result.bits ≡ viewed (row_of 64 v) (rule_of rule.entry) x.bits }
 {
-    if rule.head.kind == 3 && rule.head.a == v {
+    if rule.head.kind == VIEW && rule.head.a == v {
         names_in(rule.body, x)
     } else {
         x
@@ -148,7 +149,7 @@ fn leads(q: &[u64; 64], v: u8, w: u8) -> bool
 pub fn back_at(p: Part, q: &[u64; 64], v: u8) -> bool
     ensures { result ≡ back_to q.now v (literal_of p) }
 {
-    p.kind == 4 && leads(q, p.a, v)
+    p.kind == NOT_VIEW && leads(q, p.a, v)
 }
 
 // Does a NOT of the body lead back to v?
@@ -168,7 +169,7 @@ pub fn backs_in(body: Body, q: &[u64; 64], v: u8) -> bool
 pub fn rule_closed(rule: Rule, q: &[u64; 64], v: u8) -> bool
     ensures { result ≡ (eqb rule.entry.head.kind kind.VIEW && on_chain q.now v (view_rule (rule_of rule.entry))) }
 {
-    rule.head.kind == 3 && leads(q, v, rule.head.a) && backs_in(rule.body, q, v)
+    rule.head.kind == VIEW && leads(q, v, rule.head.a) && backs_in(rule.body, q, v)
 }
 
 // Is v on a closed chain with a NOT in it?
