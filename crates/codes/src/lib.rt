@@ -18,6 +18,13 @@ pub const CODE_ROOM: usize = 3072;
 
 pub const ENDS_ROOM: usize = 67;
 
+// The codes of a sheet's rules, six numbers a slot, and the slot after each stretch of them.
+#[derive(Clone, Copy)]
+pub struct Codes {
+    pub code: [u64; CODE_ROOM],
+    pub ends: [u16; ENDS_ROOM],
+}
+
 // The five sets of a body.
 pub type Sets = [u64; 5];
 

@@ -1,29 +1,24 @@
 // Which rules fire, by their codes: one slot of the table, a stretch of slots, the views of a state.
 #![tactic(auto)]
 
-ghost use Rattle.std.specs.Prelude.{◌≡◌, cond, ◌+◌, ◌-◌, ◌*◌, ◌<◌, ◌≤◌, length, get_or};
+ghost use Rattle.std.specs.Prelude.{◌≡◌, ◌+◌, ◌-◌, ◌*◌, ◌<◌, ◌≤◌, length, get_or, is_none, None, Some};
+ghost use Rattle.std.specs.Option.{unwrap_or};
 ghost use Rattle.facts.specs.Bits.{insert};
 ghost use Rattle.codes.specs.Codes.{bits, covers, avoids, calm, stirs};
 ghost use Rattle.codes.specs.Table.{width, word, sets_in, member_in, added_by, collected, Slots};
 ghost use Rattle.firing.specs.Firing.{settled_by, views_by, from_of, to_of, Level, Levels};
 
+use codes::Codes;
+
 // The joint move that stands for no moves: move 0 for each role.
-pub const NO_MOVES: u64 = 281479271743489;
+pub const NO_MOVES: u64 = 0x0001_0001_0001_0001;
 
-fn wide(x: u16) -> usize
-    ensures { result ≡ x }
-{
-    x as usize
-}
-
-// ---- one slot
-
-// Number j of slot c.
-fn word_at(code: &[u64], c: usize, j: usize) -> u64
-    requires { width * c + j < length code.now }
-    ensures { result ≡ word code.now c j }
-{
-    code[6 * c + j]
+// Where the rules are asked: the facts, the views (none: those gathered so far) and the joint move.
+#[derive(Clone, Copy)]
+pub struct Scene {
+    pub facts: u64,
+    pub views: Option<u64>,
+    pub joint: u64,
 }
 
 // Is all of w in x?
@@ -40,29 +35,6 @@ fn has_none(x: u64, w: u64) -> bool
     x & w == 0
 }
 
-// Are the facts and the views as slot c asks?
-pub fn calm_at(code: &[u64], c: usize, facts: u64, views: u64) -> bool
-    requires { width * (c + 1) ≤ length code.now }
-    ensures { result ≡ calm (sets_in code.now c) facts views }
-{
-    if has_all(facts, word_at(code, c, 0)) {
-        if has_none(facts, word_at(code, c, 1)) {
-            if has_all(views, word_at(code, c, 2)) {
-                return has_none(views, word_at(code, c, 3));
-            }
-        }
-    }
-    false
-}
-
-// Are the moves?
-pub fn stirs_at(code: &[u64], c: usize, joint: u64) -> bool
-    requires { width * (c + 1) ≤ length code.now }
-    ensures { result ≡ stirs (sets_in code.now c) joint }
-{
-    has_all(joint, word_at(code, c, 4))
-}
-
 // x, with the member m.
 pub fn with_member(x: u64, m: u64) -> u64
     requires { m < bits }
@@ -71,108 +43,138 @@ pub fn with_member(x: u64, m: u64) -> u64
     x | (1u64 << m)
 }
 
-fn pick(first: bool, x: u64, y: u64) -> u64
-    ensures { result ≡ cond first x y }
-{
-    if first {
-        return x;
-    }
-    y
+// ---- one slot
+
+// Slot c of a table of codes.
+#[derive(Clone, Copy)]
+pub struct Slot<'a> {
+    pub code: &'a [u64],
+    pub c: usize,
+    pub ghost inside: { width * (c + 1) ≤ length code.now },
 }
 
-// x, with the member of slot c where its sets hold. Views are read off x itself where `mine`.
-fn add_at(code: &[u64], c: usize, facts: u64, views: u64, joint: u64, mine: bool, x: u64) -> u64
-    requires { (width * (c + 1) ≤ length code.now) × (member_in code.now c < bits) }
-    ensures { result ≡ added_by mine code.now facts views joint c x }
-{
-    let seen = pick(mine, x, views);
-    if calm_at(code, c, facts, seen) {
-        if stirs_at(code, c, joint) {
-            return with_member(x, word_at(code, c, 5));
+#[tactic(auto, unfolding(codes::specs::Codes::calm, codes::specs::Codes::stirs, codes::specs::Table::added_by))]
+impl<'a> Slot<'a> {
+    // Number j of the slot.
+    fn word(self, j: usize) -> u64
+        requires { j < width }
+        ensures { result ≡ word self.entry.code.now self.entry.c j }
+    {
+        self.code[6 * self.c + j]
+    }
+
+    // Are the facts and the views as the slot asks?
+    pub fn is_calm(self, facts: u64, views: u64) -> bool
+        ensures { result ≡ calm (sets_in self.entry.code.now self.entry.c) facts views }
+    {
+        has_all(facts, self.word(0))
+            && has_none(facts, self.word(1))
+            && has_all(views, self.word(2))
+            && has_none(views, self.word(3))
+    }
+
+    // Are the moves?
+    pub fn is_stirred(self, joint: u64) -> bool
+        ensures { result ≡ stirs (sets_in self.entry.code.now self.entry.c) joint }
+    {
+        has_all(joint, self.word(4))
+    }
+
+    // The member that the slot's rule adds.
+    pub fn member(self) -> u64
+        ensures { result ≡ member_in self.entry.code.now self.entry.c }
+    {
+        self.word(5)
+    }
+
+    // x, with the member where the sets hold.
+    fn add(self, scene: Scene, x: u64) -> u64
+        requires { member_in self.code.now self.c < bits }
+        ensures { result ≡ added_by (is_none scene.views) self.entry.code.now scene.facts (unwrap_or scene.views 0) scene.joint self.entry.c x }
+    {
+        let seen = scene.views.unwrap_or(x);
+        if self.is_calm(scene.facts, seen) && self.is_stirred(scene.joint) {
+            with_member(x, self.member())
+        } else {
+            x
         }
     }
-    x
 }
 
 // ---- a stretch of slots
 
-// Once over the slots from `from` to `to`.
-pub fn collect(
-    code: &[u64],
-    from: usize,
-    to: usize,
-    facts: u64,
-    views: u64,
-    joint: u64,
-    mine: bool,
-    start: u64,
-) -> u64
-    requires { Slots code.now from to }
-    ensures { result ≡ collected mine code.now facts views joint from (to - from) start }
-{
-    let mut x = start;
-    let mut c = from;
-    while c < to {
-        x = add_at(code, c, facts, views, joint, mine, x);
-        c += 1;
+// The slots of a table of codes from one to another, whose members can be added.
+#[derive(Clone, Copy)]
+pub struct Stretch<'a> {
+    pub code: &'a [u64],
+    pub from: usize,
+    pub to: usize,
+    pub ghost slots: { Slots code.now from to },
+}
+
+impl<'a> Stretch<'a> {
+    // Once over the slots, beginning with `start`.
+    pub fn collect(self, scene: Scene, start: u64) -> u64
+        ensures { result ≡ collected (is_none scene.views) self.entry.code.now scene.facts (unwrap_or scene.views 0) scene.joint self.entry.from (self.entry.to - self.entry.from) start }
+    {
+        let mut x = start;
+        for c in self.from..self.to {
+            x = Slot { code: self.code, c }.add(scene, x);
+        }
+        x
     }
-    x
+
+    // The views of one level, given those below: until nothing changes, or all of the level's views are there.
+    pub fn settle(self, facts: u64, only: u64, start: u64) -> u64
+        requires { Level self.code.now only self.from self.to }
+        ensures { result ≡ settled_by self.entry.code.now facts self.entry.from self.entry.to start }
+    {
+        let scene = Scene {
+            facts,
+            views: None,
+            joint: NO_MOVES,
+        };
+        let mut x = start;
+        for turn in 0..64usize {
+            let y = self.collect(scene, x);
+            if y == x || has_all(y, only) {
+                return y;
+            }
+            x = y;
+        }
+        x
+    }
 }
 
 // ---- the views of a state
 
-// The views of one level, given those below: until nothing changes, or all of the level's views are there.
-pub fn settle(code: &[u64], from: usize, to: usize, facts: u64, only: u64, start: u64) -> u64
-    requires { Level code.now only from to }
-    ensures { result ≡ settled_by code.now facts from to start }
-{
-    let mut x = start;
-    let mut turn: usize = 0;
-    while turn < 64 {
-        let y = collect(code, from, to, facts, 0, NO_MOVES, true, x);
-        if y == x {
-            return x;
-        }
-        if has_all(y, only) {
-            return y;
-        }
-        x = y;
-        turn += 1;
-    }
-    x
-}
-
-// Number i of `ends`.
-pub fn end_at(ends: &[u16], i: usize) -> usize
-    requires { i < length ends.now }
-    ensures { result ≡ get_or ends.now i 0 }
-{
-    wide(ends[i])
-}
-
 // The views of level i, given those below. A level without rules adds nothing.
-fn level_by(code: &[u64], ends: &[u16], i: usize, facts: u64, only: u64, x: u64) -> u64
-    requires { (3 + i < length ends.now) × Level code.now only (from_of ends.now i) (to_of ends.now i) }
-    ensures { result ≡ settled_by code.now facts (from_of ends.now i) (to_of ends.now i) x }
+fn level_by(codes: &Codes, i: usize, facts: u64, only: u64, x: u64) -> u64
+    requires { (3 + i < length codes.now.ends) × Level codes.now.code only (from_of codes.now.ends i) (to_of codes.now.ends i) }
+    ensures { result ≡ settled_by codes.now.code facts (from_of codes.now.ends i) (to_of codes.now.ends i) x }
 {
-    let from = end_at(ends, 2 + i);
-    let to = end_at(ends, 3 + i);
+    let from = usize::from(codes.ends[2 + i]);
+    let to = usize::from(codes.ends[3 + i]);
     if from < to {
-        return settle(code, from, to, facts, only, x);
+        Stretch {
+            code: &codes.code,
+            from,
+            to,
+        }
+        .settle(facts, only, x)
+    } else {
+        x
     }
-    x
 }
 
 // The views of a state, level by level; `masks` has the views of each level.
-pub fn views_by(code: &[u64], ends: &[u16], masks: &[u64; 64], facts: u64) -> u64
-    requires { Levels code.now ends.now masks.now }
-    ensures { result ≡ views_by code.now ends.now facts }
+pub fn views_by(codes: &Codes, masks: &[u64; 64], facts: u64) -> u64
+    requires { Levels codes.now.code codes.now.ends masks.now }
+    ensures { result ≡ views_by codes.now.code codes.now.ends facts }
 {
     let mut x: u64 = 0;
-    let mut i: usize = 0;
-    while i < 64 {
-        x = level_by(code, ends, i, facts, masks[i], x);
-        i += 1;
+    for (i, only) in masks.iter().enumerate() {
+        x = level_by(codes, i, facts, *only, x);
     }
     x
 }
