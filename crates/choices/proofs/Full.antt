@@ -6,7 +6,7 @@ use mathlib.Core.List.{List}
 use native.Mathlib.Nat.{pow-suc, mul_assoc, div-add-mod'}
 use native.Mathlib.Omega.{arith}
 use lib.Dec.{eqb}
-use lib.ListN.{get_or}
+use Rattle.std.specs.Prelude.{Some, slice_get}
 use lib.Pow.{pow_pos}
 use borrow.Author.Tests.{eqb-true, eq-eqb}
 use Rattle.facts.specs.Bits.{bit, has}
@@ -41,11 +41,11 @@ module _ (n k : ℕ) (small : k < 16) (h : full n k ≡ true) where
       (ones_below i (k + 1) n ((n + 1) / 2 ^ (k + 1)) (omega (arith, div-add-mod' (n + 1) (2 ^ (k + 1)), eqb-true ((n + 1) % 2 ^ (k + 1)) 0 h)) (omega arith))
 
   -- From place i on, d members before k.
-  from : (d i : ℕ) → i + d ≡ k → get_or (rest n i) d 16 ≡ k
-  from zero i e = here n i (omega arith) 0 (has_all i (omega arith)) refl ∙ omega arith
+  from : (d i : ℕ) → i + d ≡ k → slice_get (rest n i) d ≡ Some k
+  from zero i e = here n i (omega arith) 0 (has_all i (omega arith)) refl ∙ ap Some (omega arith)
   from (suc d) i e =
       let less : suc d - 1 ≡ d = omega arith in
-      pass n i (omega arith) (suc d) (has_all i (omega arith)) (λ z. absurd (omega arith)) ∙ ap (λ (x : ℕ). get_or (rest n (i + 1)) x 16) less ∙ from d (i + 1) (omega arith)
+      pass n i (omega arith) (suc d) (has_all i (omega arith)) (λ z. absurd (omega arith)) ∙ ap (slice_get (rest n (i + 1))) less ∙ from d (i + 1) (omega arith)
 
-  pub full_nth : k ≡ get_or (members n) k 16
-  full_nth = sym (ap (λ (l : List ℕ). get_or l k 16) (rest_all n) ∙ from k 0 (omega arith))
+  pub full_nth : Some k ≡ slice_get (members n) k
+  full_nth = sym (ap (λ (l : List ℕ). slice_get l k) (rest_all n) ∙ from k 0 (omega arith))

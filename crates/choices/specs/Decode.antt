@@ -1,9 +1,9 @@
 -- A joint move taken apart, role by role: what holds after p roles, where it starts, where it ends, and that each role has some choice.
 use Rattle.std.specs.Prelude.{◌≡◌, refl, ℕ, suc, ◌+◌, ◌-◌, ◌*◌, ◌/◌, ◌≤◌, ◌<◌, length, get_or, drop, replicate, ◌⊎◌}
 use Rattle.std.proofs.Math.Path.{sym, ap}
-use Rattle.std.proofs.Common.{ap₂, ◌∙◌, subst, zero-mul, mul-zero, eq-zero-or-pos, add-one, arith, take-append-drop, drop-cons, length-take-le, get_or-take, inl, inr}
+use Rattle.std.proofs.Common.{ap₂, ◌∙◌, subst, zero-mul, mul-zero, eq-zero-or-pos, add-one, arith, take-append-drop, drop-cons, inl, inr}
 use mathlib.Core.List.{List, [], ◌∷◌, ◌++◌, append-nil}
-use Rattle.std.proofs.Math.Nat.{mul-div_cancel_left}
+use Rattle.std.proofs.Math.Nat.{mul-div_cancel_left, div-lt_iff_lt-mul}
 use Rattle.std.proofs.Math.ListN.{take}
 use Rattle.std.proofs.Math.Seq.{drop-length}
 use Rattle.choices.specs.Moves.{members, total, decode, four}
@@ -62,29 +62,15 @@ module _ (ss : List ℕ) (j p w rest : ℕ) (out : List ℕ) (h : p < length ss)
   weight_is : w / n ≡ after
   weight_is = ap (λ (x : ℕ). x / n) w_is ∙ mul-div_cancel_left after some
 
+  -- and the digit of the role is one of them
+  pub digit_low : rest / (w / length (members (get_or ss p 0))) < length (members (get_or ss p 0))
+  digit_low =
+      let e : rest / (w / n) ≡ rest / after = ap (λ (x : ℕ). rest / x) weight_is in
+      let h : rest / after < n = (div-lt_iff_lt-mul some_after).1 (omega (arith, m.below, w_is)) in
+      omega arith
+
   pub weight_pos : 0 < w / length (members (get_or ss p 0))
   weight_pos = subst (λ (x : ℕ). 0 < x) (sym weight_is) some_after
-
--- the same in the code's terms: the sets are the first `roles` of four, and n is what the count of ones gave
-module _ (sets : List ℕ) (roles j p w rest n : ℕ) (out : List ℕ) (long : length sets ≡ 4) (few : roles ≤ 4) (h : p < roles)
-    (m : Mid (take roles sets) j p w rest out) (counted : n ≡ length (members (get_or sets p 0))) where
-  roles_is : length (take roles sets) ≡ roles
-  roles_is = length-take-le roles sets (omega arith)
-
-  in_range : p < length (take roles sets)
-  in_range = omega (arith, roles_is)
-
-  few_of : length (take roles sets) ≤ 4
-  few_of = omega (arith, roles_is)
-
-  n_is : length (members (get_or (take roles sets) p 0)) ≡ n
-  n_is = ap (λ (x : ℕ). length (members x)) (get_or-take roles sets p 0 h) ∙ sym counted
-
-  pub some_of : 0 < n
-  some_of = rw n_is at (some (take roles sets) j p w rest out in_range few_of m)
-
-  pub pos_of : 0 < w / n
-  pos_of = rw n_is at (weight_pos (take roles sets) j p w rest out in_range few_of m)
 
 pub length_decode : (ss : List ℕ) (j : ℕ) → length (decode ss j) ≡ length ss
 unfolding decode
@@ -100,9 +86,5 @@ filled (a ∷ b ∷ c ∷ []) n e h = ap (λ (k : ℕ). a ∷ b ∷ c ∷ replic
 filled (a ∷ b ∷ c ∷ d ∷ []) n e h = ap (λ (k : ℕ). a ∷ b ∷ c ∷ d ∷ replicate (4 - k) 0) (sym e)
 filled (a ∷ b ∷ c ∷ d ∷ f ∷ m) n e h = absurd (omega arith)
 
-pub end_of : (sets : List ℕ) (roles j w rest : ℕ) (out : List ℕ) → length sets ≡ 4 → roles ≤ 4 → Mid (take roles sets) j roles w rest out
-    → out ≡ four (decode (take roles sets) j)
-end_of sets roles j w rest out long few m =
-    let r : length (take roles sets) ≡ roles = length-take-le roles sets (omega arith) in
-    rw r at (end (take roles sets) j w rest out (subst (λ (k : ℕ). Mid (take roles sets) j k w rest out) (sym r) m))
-    ∙ filled (decode (take roles sets) j) roles (length_decode (take roles sets) j ∙ r) few
+pub end_of : (ss : List ℕ) (j w rest : ℕ) (out : List ℕ) → length ss ≤ 4 → Mid ss j (length ss) w rest out → out ≡ four (decode ss j)
+end_of ss j w rest out few m = end ss j w rest out m ∙ filled (decode ss j) (length ss) (length_decode ss j) few

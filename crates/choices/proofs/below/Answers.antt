@@ -8,5 +8,5 @@ nonzero_rem-result c = shift_pos c.args.m c.if-m-lt16.true
 pub returns-then-m-lt16 : goal.returns-then-m-lt16
 returns-then-m-lt16 c = rank_low c.args.set c.args.m c.if-m-lt16.true
 
-pub returns : goal.returns
-returns c = rank_high c.args.set c.args.m c.ranges.set.fits c.if-m-lt16.false
+pub returns-else-m-lt16 : goal.returns-else-m-lt16
+returns-else-m-lt16 c = rank_high c.args.set c.args.m c.ranges.set.fits c.if-m-lt16.false

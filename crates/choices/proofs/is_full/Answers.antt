@@ -6,4 +6,4 @@ pub nonzero_rem-result : goal.nonzero_rem-result
 nonzero_rem-result c = divisor_pos c.args.k c.requires
 
 pub returns : goal.returns
-returns c = full_is c.args.set c.args.k c.requires
+returns c = rw c.from.ensures (full_is c.args.set c.args.k c.requires)

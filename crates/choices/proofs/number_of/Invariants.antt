@@ -1,12 +1,12 @@
 -- `choices::number_of` meets its contract: what the roles that are left add to the number so far gives the whole number.
-use Prim.Native.Nat.{◌≤◌, ◌-◌}
-use lib.ListN.{take}
+use Rattle.std.proofs.Common.{◌≡◌, length, drop}
 use Rattle.choices.specs.Moves.{encode}
 use Rattle.choices.specs.Encode.{So}
 use Rattle.choices.proofs.number_of.Given as goal
 
-abbrev pub invariant-loop-p : goal.invariant-loop-p
-invariant-loop-p l = (l.p ≤ l.roles) × So (take l.roles l.sets) (take l.roles l.moves) (encode (take l.roles l.sets) (take l.roles l.moves) 0) l.p l.n
-
-abbrev pub decreases-loop-p : goal.decreases-loop-p
-decreases-loop-p l = l.roles - l.p
+abbrev pub invariant-loop-set : goal.invariant-loop-set
+invariant-loop-set l = record {
+  so : So l.sets l.moves (encode l.sets l.moves 0) (length l.yielded) l.n;
+  roles : l.set-iterator.a.rest.now ≡ drop (length l.yielded) l.sets;
+  moved : l.set-iterator.b.rest.now ≡ drop (length l.yielded) l.moves;
+}
