@@ -10,7 +10,8 @@ use Rattle.facts.specs.Truth.{and_left, and_right}
 use Rattle.sheet.specs.declared.Sizes.{Sizes}
 use Rattle.sheet.specs.declared.Limits.{Limits}
 use Rattle.sheet.specs.Limits.{most_moves}
-use Rattle.sheet.specs.Data.{Part, part, Rule, Sheet}
+use Rattle.sheet.specs.declared.record.Part.{Part}
+use Rattle.sheet.specs.Data.{part, Rule, Sheet}
 use Rattle.sheet.specs.Fields as fields
 use Rattle.sheet.specs.Fields.{Fits, RulesFit, within, literal_limits, head_fits, literal_fits, rule_fits, sizes_fit, every}
 use Rattle.rules.specs.Kinds.{DOES}

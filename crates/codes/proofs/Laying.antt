@@ -1,5 +1,5 @@
 -- The laws of the tables that codes are laid into, and of the loop over the rules.
-use mathlib.Core.Path.{◌≡◌, refl, sym, ap, ◌∙◌, subst}
+use mathlib.Core.Path.{◌≡◌, refl, sym, ap, ap₂, ◌∙◌, subst}
 use mathlib.Core.Bool.{Bool, true, false, cond}
 use mathlib.Core.List.{List, [], ◌∷◌, ◌++◌}
 use Prim.Native.Nat.{ℕ, zero, suc, ◌+◌, ◌*◌, ◌≤◌, ◌<◌}
@@ -7,12 +7,13 @@ use native.Mathlib.Nat.{add-zero}
 use native.Mathlib.Omega.{arith}
 use borrow.Author.Tests.{lt-ltb, le-ltb}
 use lib.Dec.{ltb}
-use lib.ListN.{length, get_or, set, length-set}
-use lib.Seq.{sets, length-sets, get_or-set_same, get_or-set_other}
-use Rattle.sheet.specs.Data.{Rule, byte, rule_at, rules_from, rules_end}
+use lib.ListN.{length, get_or, set, take, drop, length-set, length-take, length-drop, length-append}
+use borrow.Rule.Slice.PartMut.{put_mid}
+use lib.Seq.{take-length, sets, sets-eq, paste, length-sets, get_or-set_same, get_or-set_other}
+use Rattle.std.proofs.lemmas.Slice.{put_mid-paste}
+use Rattle.sheet.specs.Data.{Rule}
 use Rattle.rules.specs.declared.Ask.{Ask}
 use Rattle.rules.specs.Rules.{member_of}
-use Rattle.rules.proofs.Walk.{end_room, end_on}
 use Rattle.codes.specs.Codes as codes
 use Rattle.codes.specs.Codes.{bits, sets_of, code_of, picked, Sound, AllSound}
 use Rattle.codes.specs.Table.{width, InSlot, Stand, Encoded}
@@ -47,24 +48,28 @@ five (x ∷ y ∷ z ∷ u ∷ []) h = absurd (omega arith)
 five (x ∷ y ∷ z ∷ u ∷ v ∷ []) h = refl
 five (x ∷ y ∷ z ∷ u ∷ v ∷ t ∷ w) h = absurd (omega arith)
 
-six : (l : List ℕ) (i x y z u v m : ℕ)
-    → set (set (set (set (set (set l i x) (i + 1) y) (i + 2) z) (i + 3) u) (i + 4) v) (i + 5) m ≡ sets l i (x ∷ y ∷ z ∷ u ∷ v ∷ m ∷ [])
-six l i x y z u v m =
-    let a : i + 1 ≡ suc i = omega arith in
-    let b : i + 2 ≡ suc (suc i) = omega arith in
-    let c : i + 3 ≡ suc (suc (suc i)) = omega arith in
-    let d : i + 4 ≡ suc (suc (suc (suc i))) = omega arith in
-    let e : i + 5 ≡ suc (suc (suc (suc (suc i)))) = omega arith in
-    rw (a, b, c, d, e) refl
+take_all : (l : List ℕ) → length l ≡ 6 → take 6 l ≡ l
+take_all l e = ap (λ (i : ℕ). take i l) (sym e) ∙ take-length l
 
-pub write_is : (code w : List ℕ) (c m n : ℕ) → length w ≡ 5 → n ≡ m
-    → set (set (set (set (set (set code (6 * c) (get_or w 0 0)) (6 * c + 1) (get_or w 1 0)) (6 * c + 2) (get_or w 2 0)) (6 * c + 3) (get_or w 3 0)) (6 * c + 4) (get_or w 4 0)) (6 * c + 5) n
-    ≡ written code c (w ++ (m ∷ []))
+-- the sets over five of the slot's numbers, and a number over the sixth
+over_six : (w r : List ℕ) (m : ℕ) → length w ≡ 5 → length r ≡ 1 → set (w ++ r) 5 m ≡ w ++ (m ∷ [])
+over_six w [] m h k = absurd (omega arith)
+over_six w (x ∷ y ∷ r) m h k = absurd (omega arith)
+over_six w (x ∷ []) m h k = ap (λ (l : List ℕ). set (l ++ (x ∷ [])) 5 m) (five w h) ∙ sym (ap (λ (l : List ℕ). l ++ (m ∷ [])) (five w h))
+
+pub write_is : (code w x : List ℕ) (c k m n : ℕ) → length w ≡ 5 → width * c + width ≤ length code → k ≡ width → x ≡ w → n ≡ m
+    → put_mid (6 * c) k code (set (x ++ drop 5 (take k (drop (6 * c) code))) 5 n) ≡ written code c (w ++ (m ∷ []))
 unfolding written
-write_is code w c m n h e =
-    six code (6 * c) (get_or w 0 0) (get_or w 1 0) (get_or w 2 0) (get_or w 3 0) (get_or w 4 0) n
-    ∙ ap (λ (k : ℕ). written code c (get_or w 0 0 ∷ get_or w 1 0 ∷ get_or w 2 0 ∷ get_or w 3 0 ∷ get_or w 4 0 ∷ k ∷ [])) e
-    ∙ ap (λ (l : List ℕ). written code c (l ++ (m ∷ []))) (sym (five w h))
+write_is code w x c k m n h room e f g =
+    let r = drop 5 (take k (drop (6 * c) code)) in
+    let one : length r ≡ 1 = omega (arith, length-drop 5 (take k (drop (6 * c) code)), length-take k (drop (6 * c) code), length-drop (6 * c) code) in
+    let v : set (x ++ r) 5 n ≡ w ++ (m ∷ []) = ap₂ (λ (l : List ℕ) (i : ℕ). set (l ++ r) 5 i) f g ∙ over_six w r m h one in
+    let six : length (w ++ (m ∷ [])) ≡ 6 = omega (arith, length-append w (m ∷ [])) in
+    put_mid-paste (6 * c) k code (set (x ++ r) 5 n) (w ++ (m ∷ [])) k v refl (omega arith)
+    ∙ ap (λ (i : ℕ). paste code (6 * c) (w ++ (m ∷ [])) i) e
+    ∙ ap (λ (l : List ℕ). take (6 * c) code ++ l ++ drop (6 * c + 6) code) (take_all (w ++ (m ∷ [])) six)
+    ∙ ap (λ (i : ℕ). take (6 * c) code ++ (w ++ (m ∷ [])) ++ drop (6 * c + i) code) (sym six)
+    ∙ sym (sets-eq (w ++ (m ∷ [])) code (6 * c) (omega arith))
 
 module _ (q : Ask) (r : Rule) (code : List ℕ) (c : ℕ) where
   abbrev put : List ℕ
@@ -195,61 +200,37 @@ module _ (q : Ask) (r : Rule) where
 pub after_above : (q : Ask) (rs : List Rule) (c : ℕ) → c ≤ after q rs c
 after_above q rs c = omega (arith, after_is q rs c)
 
--- ---- THE loop over the rules: those that are left fit and are sound, and from the present slot and table they lead to the last slot (e) and the whole table (z)
-pub record Laying (s : List ℕ) (q : Ask) (e : ℕ) (z : List ℕ) (at left c : ℕ) (code : List ℕ) : Type 0 where
-  pub fits : rules_end s at left ≤ length s
-  pub sound : AllSound (rules_from s at left)
-  pub slot : after q (rules_from s at left) c ≡ e
-  pub gives : encoded q (rules_from s at left) code c ≡ z
+-- ---- THE loop over the rules: those that are left are sound, and from the present slot and table they lead to the last slot (e) and the whole table (z)
+pub record Laying (q : Ask) (e : ℕ) (z : List ℕ) (rs : List Rule) (c : ℕ) (code : List ℕ) : Type 0 where
+  pub sound : AllSound rs
+  pub slot : after q rs c ≡ e
+  pub gives : encoded q rs code c ≡ z
   pub room : width * e ≤ length code
 
-module _ (s : List ℕ) where
-  rule_sound : (n at : ℕ) → 0 < n → AllSound (rules_from s at n) → Sound (rule_at s at).body
-  rule_sound zero at h k = absurd (omega arith)
-  rule_sound (suc n) at h (codes.one this rest) = this
+module _ {q : Ask} {e : ℕ} {z : List ℕ} {r : Rule} {rs : List Rule} {c : ℕ} {code : List ℕ} (v : Laying q e z (r ∷ rs) c code) where
+  -- the rule at hand is sound, and has a slot
+  pub laying_sound : Sound r.body
+  laying_sound = go v.sound
+    where
+      go : AllSound (r ∷ rs) → Sound r.body
+      go (codes.one this rest) = this
 
-  rules_sound : (m at : ℕ) → AllSound (rules_from s at (suc m)) → AllSound (rules_from s (at + (6 + 3 * byte s (at + 5))) m)
-  rules_sound m at (codes.one this rest) = rest
-
-module _ (s : List ℕ) (q : Ask) where
-  first_after : (n at c : ℕ) → 0 < n → after q (rule_at s at ∷ []) c ≤ after q (rules_from s at n) c
-  first_after zero at c h = absurd (omega arith)
-  first_after (suc n) at c h =
-      let rest = rules_from s (at + (6 + 3 * byte s (at + 5))) n in
-      omega (arith, after_cons q (rule_at s at) rest c, after_above q rest (after q (rule_at s at ∷ []) c))
-
-  laid_out : (n at c e : ℕ) (code z : List ℕ) → n ≤ 0 → after q (rules_from s at n) c ≡ e → encoded q (rules_from s at n) code c ≡ z → (c ≡ e) × (code ≡ z)
-  unfolding after encoded
-  laid_out zero at c e code z h k g = (sym (add-zero c) ∙ k, g)
-  laid_out (suc n) at c e code z h k g = absurd (omega arith)
-
-module _ {s : List ℕ} {q : Ask} {e : ℕ} {z : List ℕ} {at n c : ℕ} {code : List ℕ} (v : Laying s q e z at n c code) where
-  -- the rule at hand fits, is sound, and has a slot
-  pub laying_room : 0 < n → at + (6 + 3 * byte s (at + 5)) ≤ length s
-  laying_room h = omega (arith, end_room s n at h, v.fits)
-
-  pub laying_sound : 0 < n → Sound (rule_at s at).body
-  laying_sound h = rule_sound s n at h v.sound
-
-  pub laying_slot : 0 < n → width * after q (rule_at s at ∷ []) c ≤ length code
-  laying_slot h = omega (arith, first_after s q n at c h, v.slot, v.room)
+  pub laying_slot : width * after q (r ∷ []) c ≤ length code
+  laying_slot = omega (arith, after_cons q r rs c, after_above q rs (after q (r ∷ []) c), v.slot, v.room)
 
   -- the next turn
-  pub laying_on : {m r d : ℕ} {next : List ℕ} → n ≡ suc m → r ≡ 6 + 3 * byte s (at + 5) → d ≡ after q (rule_at s at ∷ []) c → next ≡ encoded q (rule_at s at ∷ []) code c
-      → Laying s q e z (at + r) m d next
-  laying_on {m} {r} {d} {next} p g h k =
-      let step = 6 + 3 * byte s (at + 5) in
-      let rest = rules_from s (at + step) m in
-      let same : rules_from s (at + r) m ≡ rest = ap (λ (i : ℕ). rules_from s (at + i) m) g in
-      record {
-        fits = end_on s n m at r p g v.fits;
-        sound = subst AllSound (sym same) (rules_sound s m at (subst (λ (i : ℕ). AllSound (rules_from s at i)) p v.sound));
-        slot = ap (λ (l : List Rule). after q l d) same ∙ ap (after q rest) h ∙ sym (after_cons q (rule_at s at) rest c) ∙ sym (ap (λ (i : ℕ). after q (rules_from s at i) c) p) ∙ v.slot;
-        gives = ap (λ (l : List Rule). encoded q l next d) same ∙ ap (λ (l : List ℕ). encoded q rest l d) k ∙ ap (encoded q rest (encoded q (rule_at s at ∷ []) code c)) h
-            ∙ sym (encoded_cons q (rule_at s at) rest c code) ∙ sym (ap (λ (i : ℕ). encoded q (rules_from s at i) code c) p) ∙ v.gives;
-        room = omega (arith, v.room, ap length k, encoded_length q (rule_at s at ∷ []) code c);
-      }
+  pub laying_on : {d : ℕ} {next : List ℕ} → d ≡ after q (r ∷ []) c → next ≡ encoded q (r ∷ []) code c → Laying q e z rs d next
+  laying_on {d} {next} h k = record {
+    sound = go v.sound;
+    slot = ap (after q rs) h ∙ sym (after_cons q r rs c) ∙ v.slot;
+    gives = ap (λ (l : List ℕ). encoded q rs l d) k ∙ ap (encoded q rs (encoded q (r ∷ []) code c)) h ∙ sym (encoded_cons q r rs c code) ∙ v.gives;
+    room = omega (arith, v.room, ap length k, encoded_length q (r ∷ []) code c);
+  }
+    where
+      go : AllSound (r ∷ rs) → AllSound rs
+      go (codes.one this rest) = rest
 
-  -- the end
-  pub laying_out : n ≤ 0 → (c ≡ e) × (code ≡ z)
-  laying_out h = laid_out s q n at c e code z h v.slot v.gives
+-- the end
+pub laying_out : {q : Ask} {e : ℕ} {z : List ℕ} {c : ℕ} {code : List ℕ} → Laying q e z [] c code → (c ≡ e) × (code ≡ z)
+unfolding after encoded
+laying_out {c = c} v = (sym (add-zero c) ∙ v.slot, v.gives)

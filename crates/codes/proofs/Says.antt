@@ -13,7 +13,8 @@ use Rattle.facts.specs.Truth.{same_test, and_left, and_right, and_both}
 use Rattle.facts.specs.Bits.{bit, has, insert}
 use Rattle.facts.specs.Laws.{bit-and, bit_none, bit_cases, has_insert}
 use Rattle.facts.specs.Sets.{◌∈◌, ◌∉◌, same_set, insert_new, insert_old, insert_cases}
-use Rattle.sheet.specs.Data.{Part, part, Rule}
+use Rattle.sheet.specs.declared.record.Part.{Part}
+use Rattle.sheet.specs.Data.{part, Rule}
 use Rattle.rules.specs.declared.Look.{Look}
 use Rattle.rules.specs.declared.Ask.{Ask}
 use Rattle.rules.specs.Meaning.{doing, holds}

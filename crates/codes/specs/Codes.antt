@@ -3,7 +3,8 @@ use Rattle.std.specs.Prelude.{ℕ, ◌+◌, ◌-◌, ◌*◌, ◌≤◌, ◌<◌
 use Rattle.std.specs.Int.Bits.{bit_and}
 use Rattle.facts.specs.Bits.{insert}
 use Rattle.sheet.specs.Limits.{most_moves}
-use Rattle.sheet.specs.Data.{Part, Rule}
+use Rattle.sheet.specs.declared.record.Part.{Part}
+use Rattle.sheet.specs.Data.{Rule}
 use Rattle.rules.specs.Kinds.{DOES}
 use Rattle.rules.specs.declared.Ask.{Ask}
 use Rattle.rules.specs.Rules.{member_of}

@@ -1,25 +1,9 @@
--- `write` meets its contract: six stores are one run of stores. (`t1` is the parameter `w`.)
-use native.Mathlib.Omega.{arith}
-use lib.ListN.{length-set}
+-- `write` meets its contract: what is written over the slot is one run of stores.
+use Rattle.std.proofs.Common.{arith}
 use Rattle.codes.proofs.Laying.{write_is}
 use Rattle.codes.proofs.write.Goals as goal
-
-pub bounds-code-base-2 : goal.bounds-code-base-2
-bounds-code-base-2 c = simp length-set (omega arith)
-
-pub bounds-code-base-3 : goal.bounds-code-base-3
-bounds-code-base-3 c = simp length-set (omega arith)
-
-pub bounds-code-base-4 : goal.bounds-code-base-4
-bounds-code-base-4 c = simp length-set (omega arith)
-
-pub bounds-code-base-5 : goal.bounds-code-base-5
-bounds-code-base-5 c = simp length-set (omega arith)
-
-pub bounds-code-base-6 : goal.bounds-code-base-6
-bounds-code-base-6 c = simp length-set (omega arith)
 
 pub returns : goal.returns
 returns c =
     let a = c.args in
-    write_is a.code.now a.w a.c a.m c.long.result c.requires.0 c.long.ensures
+    write_is a.code.now a.w c.copy_from_slice.new.self a.c _ a.m c.from.result c.requires.0 c.requires.1 (omega arith) c.copy_from_slice.ensures.after c.from.ensures
