@@ -4,7 +4,8 @@ use mathlib.Core.Path.{◌≡◌, refl}
 use mathlib.Core.Bool.{Bool, true, false}
 use mathlib.Core.List.{List, [], ◌∷◌}
 use Rattle.facts.specs.Bits.{insert}
-use Rattle.sheet.specs.Data.{Part, part, Rule, Node, Sheet}
+use Rattle.sheet.specs.declared.record.Part.{Part}
+use Rattle.sheet.specs.Data.{part, Rule, Node, Sheet}
 use Rattle.sheet.specs.Question.{question_of}
 use Rattle.rules.specs.Kinds as kind
 use Rattle.rules.specs.Meaning.{doing, holds}

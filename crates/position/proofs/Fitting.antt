@@ -11,7 +11,8 @@ use lib.ListN.{length}
 use Rattle.facts.specs.Truth.{and_left, and_right}
 use Rattle.sheet.specs.declared.Sizes.{Sizes}
 use Rattle.sheet.specs.declared.Limits.{Limits}
-use Rattle.sheet.specs.Data.{Part, Rule}
+use Rattle.sheet.specs.declared.record.Part.{Part}
+use Rattle.sheet.specs.Data.{Rule}
 use Rattle.sheet.specs.Fields.{sizes_fit, within, head_limits, head_fits, literal_fits, every, plain, rule_fits, form_fits, RulesFit}
 use Rattle.sheet.specs.Fields as fields
 

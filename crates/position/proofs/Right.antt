@@ -11,7 +11,8 @@ use Rattle.facts.specs.Truth.{same_test, and_left, and_right, and_both}
 use Rattle.facts.specs.Bits.{bit, has}
 use Rattle.facts.specs.Laws.{has_and, has_beyond}
 use Rattle.facts.specs.Sets.{same_bit, same_set, le_or_lt}
-use Rattle.sheet.specs.Data.{Part, Rule, Sheet}
+use Rattle.sheet.specs.declared.record.Part.{Part}
+use Rattle.sheet.specs.Data.{Rule, Sheet}
 use Rattle.sheet.specs.Fields.{Fits, rule_fits}
 use Rattle.sheet.specs.declared.question.Question.{Question}
 use Rattle.sheet.specs.declared.question.Question.TheVariants as question
@@ -21,7 +22,7 @@ use Rattle.rules.specs.Meaning.{Fires, NextHolds, LegalHolds, GoalHolds, Termina
 use Rattle.rules.specs.Rules.{does_set, legal_set, next_facts, init_facts}
 use Rattle.rules.proofs.Laws.{legal_lt}
 use Rattle.rules.proofs.Says.{gathered_is, next_is, legal_is, terminal_is, goal_is, init_is, does_is}
-use Rattle.views.specs.declared.Strata.TheVariants as strata
+use Rattle.std.specs.Prelude.{Ok}
 use Rattle.views.specs.Meaning.{At, view_rules, Stratified}
 use Rattle.views.specs.Sheet.{answer}
 use Rattle.views.proofs.Fits.{sheet_fits}
@@ -163,7 +164,7 @@ module _ (d : Sheet) (fit : Fits d) where
 
   -- the VIEW rules are stratified
   module _ (ok : Stratified (view_rules rs)) where
-    accepted : answer rs ≡ strata.Stratified
+    accepted : answer rs ≡ Ok tt
     accepted = (accepted_is rs (sheet_fits d fit)).1 ok
 
     pub rules_right : GameOf d (rules_of d)

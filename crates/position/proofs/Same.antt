@@ -8,7 +8,8 @@ use borrow.Author.Tests.{le-ltb}
 use lib.Dec.{ltb}
 use lib.ListN.{get_or}
 use Rattle.facts.specs.Bits.{has, insert}
-use Rattle.sheet.specs.Data.{Part, part, Rule, Sheet}
+use Rattle.sheet.specs.declared.record.Part.{Part}
+use Rattle.sheet.specs.Data.{part, Rule, Sheet}
 use Rattle.sheet.specs.Fields.{Fits}
 use Rattle.rules.specs.declared.Look.{Look}
 use Rattle.rules.specs.declared.Ask.TheVariants.{Next}

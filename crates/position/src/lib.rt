@@ -1,9 +1,9 @@
 // One position of the game: what it offers, and what the plain tests say of it.
 #![tactic(auto)]
 
-ghost use Rattle.std.specs.Prelude.{◌≡◌, ◌*◌, ◌/◌, ◌%◌, ◌^◌, ◌<◌, ◌≤◌, length};
+ghost use Rattle.std.specs.Prelude.{◌≡◌, ◌*◌, ◌/◌, ◌%◌, ◌^◌, ◌<◌};
 ghost use Rattle.facts.specs.Bits.{has};
-ghost use Rattle.sheet.specs.Data.{rules_from, rules_end};
+ghost use Rattle.sheet.specs.Records.{rules_of};
 ghost use Rattle.rules.specs.Rules.{legal_set};
 ghost use Rattle.position.specs.Choices.{choices};
 ghost use Rattle.position.specs.Position.{moves_of, offering, says};
@@ -12,20 +12,17 @@ use choices::{Choices, Moves};
 use facts::FactSet;
 use rules::{Ask, Look, gather, is_goal, is_terminal, role_moves};
 use sheet::question::Question;
+use sheet::record::Rules;
 
 // The moves of each role, found once a sheet.
-pub fn moves_of(s: &[u8], first: usize, n: usize) -> Moves
-    requires { rules_end s.now first n ≤ length s.now }
-    ensures { result ≡ moves_of (rules_from s.now first n) }
+pub fn moves_of(rules: Rules) -> Moves
+    ensures { result ≡ moves_of (rules_of rules.entry) }
 {
-    let a = role_moves(s, first, n, 0);
-    let b = role_moves(s, first, n, 1);
-    let c = role_moves(s, first, n, 2);
-    let d = role_moves(s, first, n, 3);
-    [a, b, c, d]
+    [0, 1, 2, 3].map(|role| role_moves(rules, role))
 }
 
 // A role's choices, from the moves that are LEGAL and the moves of the role.
+#[tactic(auto, unfolding(crate::specs::Choices::choices))]
 pub fn choices_of(legal: u16, moves: u16) -> u16
     ensures { result ≡ choices legal moves }
 {
@@ -42,51 +39,42 @@ pub fn part_of(x: u64, role: u64) -> u16
 
 // What a position offers, from whether it is the end of a game and from the legal moves of all roles; `moves` has each role's moves.
 // At the end of a game each role has one move, and the game stays.
-pub fn choices_from(terminal: bool, legals: u64, moves: [u16; 4]) -> Choices
+#[tactic(auto, unfolding(crate::specs::Position::offering))]
+pub fn choices_from(terminal: bool, legals: u64, moves: Moves) -> Choices
     ensures { result ≡ offering terminal legals moves }
 {
-    if terminal {
-        return Choices {
-            sets: [1; 4],
-            terminal: true,
-        };
-    }
-    let a = choices_of(part_of(legals, 0), moves[0]);
-    let b = choices_of(part_of(legals, 1), moves[1]);
-    let c = choices_of(part_of(legals, 2), moves[2]);
-    let d = choices_of(part_of(legals, 3), moves[3]);
-    Choices {
-        sets: [a, b, c, d],
-        terminal: false,
-    }
+    let sets = if terminal {
+        [1; 4]
+    } else {
+        [
+            choices_of(part_of(legals, 0), moves[0]),
+            choices_of(part_of(legals, 1), moves[1]),
+            choices_of(part_of(legals, 2), moves[2]),
+            choices_of(part_of(legals, 3), moves[3]),
+        ]
+    };
+    Choices { sets, terminal }
 }
 
 // Is the move LEGAL for the role, by the rules alone?
-pub fn is_legal(s: &[u8], first: usize, n: usize, k: Look, role: u8, m: u8) -> bool
-    requires { rules_end s.now first n ≤ length s.now }
-    ensures { result ≡ has (legal_set (rules_from s.now first n) k role) m }
+#[tactic(auto, unfolding(rules::specs::Rules::legal_set))]
+pub fn is_legal(rules: Rules, k: Look, role: u8, m: u8) -> bool
+    ensures { result ≡ has (legal_set (rules_of rules.entry) k role) m }
 {
-    let empty = FactSet { bits: 0 };
-    let x = gather(s, first, n, Ask::Legal(role), k, empty);
-    x.has(m)
+    gather(rules, Ask::Legal(role), k, FactSet { bits: 0 }).has(m)
 }
 
 // What a plain test says of a position; the other nodes are no tests.
-pub fn test_at(s: &[u8], first: usize, n: usize, k: Look, q: Question) -> bool
-    requires { rules_end s.now first n ≤ length s.now }
-    ensures { result ≡ says (rules_from s.now first n) k q }
+pub fn test_at(rules: Rules, k: Look, q: Question) -> bool
+    ensures { result ≡ says (rules_of rules.entry) k q }
 {
     match q {
         Question::True => true,
         Question::Fact(f) => k.facts.has(f),
         Question::View(v) => k.views.has(v),
-        Question::Legal(role, m) => is_legal(s, first, n, k, role, m),
-        Question::Goal(role, value) => is_goal(s, first, n, k, role, value),
-        Question::Terminal => is_terminal(s, first, n, k),
-        Question::Unknown => false,
-        Question::Not(a) => false,
-        Question::And(a, b) => false,
-        Question::Or(a, b) => false,
-        Question::Can(c, f) => false,
+        Question::Legal(role, m) => is_legal(rules, k, role, m),
+        Question::Goal(role, value) => is_goal(rules, k, role, value),
+        Question::Terminal => is_terminal(rules, k),
+        _ => false,
     }
 }
