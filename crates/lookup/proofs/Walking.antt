@@ -1,23 +1,16 @@
 -- The loop over a way: where it stands, and that it ends.
 use Prim.Native.Nat.{ℕ, ◌+◌, ◌-◌, ◌*◌, ◌≤◌, ◌<◌}
 use mathlib.Core.Path.{◌≡◌, refl, sym, ap, ◌∙◌, subst}
-use mathlib.Core.Bool.{Bool, true, false, cond}
+use mathlib.Core.Bool.{Bool, cond}
 use mathlib.Core.List.{List}
 use native.Mathlib.Omega.{arith}
 use lib.Dec.{ltb}
 use lib.ListN.{get_or}
-use borrow.Author.Tests.{lt-ltb, le-ltb, eqb-true, eqb-false}
-use Rattle.facts.specs.Bits.{bit, has}
+use borrow.Author.Tests.{lt-ltb, le-ltb}
+use Rattle.facts.specs.Bits.{bit}
 use Rattle.tables.specs.Lengths.{state_limit}
 use Rattle.lookup.specs.Tree.{fact_limit, Link, Target, entry, node, Way, here, Spotted, Forked}
 use Rattle.lookup.proofs.Ways.{bit_le, root, link_of, node_in, way_link, way_next}
-
--- the side of a node on which a number goes on
-pub side_one : (x f : ℕ) → has x f ≡ true → bit x f ≡ 1
-side_one x f e = eqb-true (bit x f) 1 e
-
-pub side_none : (x f : ℕ) → has x f ≡ false → bit x f ≡ 0
-side_none x f e = omega (arith, eqb-false (bit x f) 1 e, bit_le x f)
 
 -- the way of x from the root has come to link p, which leads to c
 pub record Walked (tests forks : List ℕ) (x d p c : ℕ) : Type 0 where

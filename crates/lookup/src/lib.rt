@@ -1,11 +1,11 @@
 // A number found among many: the numbers of a table are the ends of a tree of tests, and one way of at most 64 steps is walked.
 #![tactic(auto)]
 
-ghost use Rattle.std.specs.Prelude.{◌≡◌, ℕ, ◌+◌, ◌*◌, ◌≤◌, ◌<◌, take};
+ghost use Rattle.std.specs.Prelude.{◌≡◌, ℕ, ◌+◌, ◌*◌, ◌≤◌, ◌<◌, MatchOption, replicate, take};
 ghost use Rattle.facts.specs.Bits.{bit};
 ghost use Rattle.tables.specs.Lengths.{state_limit};
 ghost use Rattle.meaning.specs.Lists.{place};
-ghost use Rattle.lookup.specs.Tree.{Spotted, Lands, Forked, Treed, Enrolled, FirstDifference};
+ghost use Rattle.lookup.specs.Tree.{link_limit, Spotted, Lands, Forked, Treed, Enrolled, FirstDifference};
 
 use facts::FactSet;
 use tables::STATE_LIMIT;
@@ -16,18 +16,11 @@ pub const LINK_LIMIT: usize = 2048;
 // How many facts can be tested.
 const FACT_LIMIT: u8 = 64;
 
-// A sixteen-bit number as an index.
-fn wide(x: u16) -> usize
-    ensures { result ≡ x }
-{
-    x as usize
-}
-
-// The answer of the number x to a test of fact f.
-fn side(x: u64, f: u8) -> usize
-    ensures { result ≡ bit x f }
-{
-    if FactSet::of(x).has(f) { 1 } else { 0 }
+// A tree of tests: the fact that each node tests, and where each link leads.
+#[derive(Drop)]
+pub struct Tree {
+    pub tests: [u8; STATE_LIMIT],
+    pub forks: [u16; LINK_LIMIT],
 }
 
 // The link at which node k, which tests fact f, goes on for the number x.
@@ -35,35 +28,7 @@ fn fork_at(k: usize, x: u64, f: u8) -> usize
     requires { k < state_limit }
     ensures { result ≡ 2 * k + bit x f }
 {
-    2 * k + side(x, f)
-}
-
-// The first link on the way of x that does not lead to a node with a test below d.
-fn spot(tests: &[u8], forks: &[u16], x: u64, d: u8) -> usize
-    requires { (n : ℕ) × Forked n tests.now forks.now }
-    ensures { Spotted tests.now forks.now x d result }
-{
-    let mut p: usize = 0;
-    let mut c = wide(forks[0]);
-    while STATE_LIMIT <= c {
-        let k = c - STATE_LIMIT;
-        let f = tests[k];
-        if d <= f {
-            return p;
-        }
-        p = fork_at(k, x, f);
-        c = wide(forks[p]);
-    }
-    p
-}
-
-// The entry at which the way of x ends.
-fn land(tests: &[u8], forks: &[u16], x: u64) -> usize
-    requires { (n : ℕ) × Forked n tests.now forks.now }
-    ensures { Lands tests.now forks.now x result }
-{
-    let p = spot(tests, forks, x, FACT_LIMIT);
-    wide(forks[p])
+    2 * k + usize::from(FactSet::of(x).has(f))
 }
 
 // The lowest fact in which two numbers differ.
@@ -71,35 +36,73 @@ fn first_difference(a: u64, b: u64) -> u8
     requires { a ≡ b → ⊥ }
     ensures { FirstDifference a b result }
 {
-    u64::trailing_zeros(a ^ b) as u8
+    (a ^ b).trailing_zeros() as u8
 }
 
-// The place of x among the first n entries of a table, or n: only the entry where its way ends can be x.
-pub fn seek(table: &[u64], tests: &[u8], forks: &[u16], n: usize, x: u64) -> usize
-    requires { Treed table.now n tests.now forks.now }
-    ensures { result ≡ place x (take n table.now) }
-{
-    let i = land(tests, forks, x);
-    if table[i] == x { i } else { n }
-}
+impl Tree {
+    // The tree of the first entry alone.
+    pub fn new() -> Self
+        ensures tests { result.tests ≡ replicate state_limit 0 }
+        ensures forks { result.forks ≡ replicate link_limit 0 }
+    {
+        Self {
+            tests: [0; STATE_LIMIT],
+            forks: [0; LINK_LIMIT],
+        }
+    }
 
-// The number x, which is none of the first n entries, comes in as entry n. Node n tests the lowest fact in which x differs from the entry where its way ends; it takes the
-// place of the first link on the way whose target tests nothing below that.
-pub fn enroll(table: &[u64], tests: &mut [u8], forks: &mut [u16], n: usize, x: u64)
-    requires { Treed table.now n tests.old forks.old × (n ≤ place x (take n table.now)) × (n < state_limit) }
-    ensures { Enrolled table.now n x tests.new forks.new }
-{
-    let i = land(tests, forks, x);
-    let y = table[i];
-    let d = first_difference(y, x);
-    let q = spot(tests, forks, x, d);
-    let was = forks[q];
-    let entry = n as u16;
-    let node = (STATE_LIMIT + n) as u16;
-    let new = fork_at(n, x, d);
-    let old = fork_at(n, y, d);
-    tests[n] = d;
-    forks[new] = entry;
-    forks[old] = was;
-    forks[q] = node;
+    // The first link on the way of x that does not lead to a node with a test below d.
+    fn spot(&self, x: u64, d: u8) -> usize
+        requires { (n : ℕ) × Forked n self.now.tests self.now.forks }
+        ensures { Spotted self.now.tests self.now.forks x d result }
+    {
+        let mut p = 0;
+        let mut c = usize::from(self.forks[p]);
+        while STATE_LIMIT <= c {
+            let k = c - STATE_LIMIT;
+            let f = self.tests[k];
+            if d <= f {
+                return p;
+            }
+            p = fork_at(k, x, f);
+            c = usize::from(self.forks[p]);
+        }
+        p
+    }
+
+    // The entry at which the way of x ends.
+    fn land(&self, x: u64) -> usize
+        requires { (n : ℕ) × Forked n self.now.tests self.now.forks }
+        ensures { Lands self.now.tests self.now.forks x result }
+    {
+        usize::from(self.forks[self.spot(x, FACT_LIMIT)])
+    }
+
+    // The place of x among the first n entries of a table: only the entry where its way ends can be x.
+    pub fn seek(&self, table: &[u64], n: usize, x: u64) -> Option<usize>
+        requires { Treed table.now n self.now.tests self.now.forks }
+        ensures { MatchOption result (place x (take n table.now) ≡ n)
+            (λ i. (i < n) × (place x (take n table.now) ≡ i)) }
+    {
+        let i = self.land(x);
+        if table[i] == x { Some(i) } else { None }
+    }
+
+    // The number x, which is none of the first n entries, comes in as entry n. Node n tests the lowest fact in which x differs from the entry where its way ends; it takes the
+    // place of the first link on the way whose target tests nothing below that.
+    pub fn enroll(&mut self, table: &[u64], n: usize, x: u64)
+        requires { Treed table.now n self.old.tests self.old.forks × (n ≤ place x (take n table.now)) × (n < state_limit) }
+        ensures { Enrolled table.now n x self.new.tests self.new.forks }
+    {
+        let y = table[self.land(x)];
+        let d = first_difference(y, x);
+        let q = self.spot(x, d);
+        let was = self.forks[q];
+        let new = fork_at(n, x, d);
+        let old = fork_at(n, y, d);
+        self.tests[n] = d;
+        self.forks[new] = n as u16;
+        self.forks[old] = was;
+        self.forks[q] = (STATE_LIMIT + n) as u16;
+    }
 }
