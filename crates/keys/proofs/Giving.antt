@@ -8,7 +8,7 @@ use native.Mathlib.Omega.{arith}
 use borrow.Author.Tests.{eqb-true, eq-eqb}
 use lib.Bits.{bit_and, bit_or}
 use lib.Dec.{eqb}
-use lib.ListN.{get_or, length, take, length-append, get_or-append}
+use lib.ListN.{get_or, length, length-append, get_or-append}
 use lib.Seq.{get_or_at}
 use Rattle.facts.specs.Bits.{bit, insert}
 use Rattle.facts.specs.Laws.{bit-or, bit-and, bit_insert}
@@ -19,7 +19,8 @@ use Rattle.meaning.specs.Lists.{place}
 use Rattle.lookup.proofs.Place.{place_le}
 use Rattle.codes.specs.Codes.{calm, stirs, joint_of}
 use Rattle.codes.specs.Table.{sets_in, member_in}
-use Rattle.keys.specs.Keys.{alive, tested, picked_by, next_by, kind_of, key_of, need_in, keys_of, Filing, Gathered, place_at, given}
+use Rattle.keys.specs.declared.Keys.{Keys}
+use Rattle.keys.specs.Keys.{alive, tested, picked_by, next_by, kind_of, key_of, need_in, keys_of, keys_in, Filing, Gathered, place_at, given}
 use Rattle.keys.proofs.Homing.{up_to, place_injective, home_inside, mask_there, kind_below}
 use Rattle.keys.proofs.Mixing.{key_injective}
 use Rattle.keys.proofs.Parts.{kind_low, part_is}
@@ -87,14 +88,14 @@ module _ (homes : List ℕ) (at : ℕ → ℕ) where
   hit_some (suc k) c e = ⊎_elim (hit_some k c) (λ q. (k, eqb-true (get_or homes c 0) (at k) q)) (or_split (hit homes at k c) (eqb (get_or homes c 0) (at k)) e)
 
 -- What the gifts have is what the slots give that are hit.
-given_hit : {code homes : List ℕ} {n : ℕ} {l gifts : List ℕ} (keys masks : List ℕ) → Gathered code homes n l gifts → length keys ≤ n
-    → (joint k : ℕ) → given keys masks gifts joint k ≡ picked_by (hit homes (place_at keys masks joint) k) code l
+given_hit : {code : List ℕ} {filed : Keys} {l gifts : List ℕ} (keys masks : List ℕ) → Gathered code filed l gifts → length keys ≤ filed.count
+    → (joint k : ℕ) → given keys masks gifts joint k ≡ picked_by (hit filed.homes (place_at keys masks joint) k) code l
 unfolding given
-given_hit {code} {homes} {n} {l} {gifts} keys masks g h joint zero = sym (picked_none code l)
-given_hit {code} {homes} {n} {l} {gifts} keys masks g h joint (suc k) =
+given_hit {code} {filed} {l} {gifts} keys masks g h joint zero = sym (picked_none code l)
+given_hit {code} {filed} {l} {gifts} keys masks g h joint (suc k) =
     let x = key_of (bit_and (get_or masks k 0) joint) in
     ap₂ bit_or (given_hit keys masks g h joint k) (g.gifts_are (place_at keys masks joint k) (omega (arith, h, place_le x keys)))
-    ∙ picked_either code (hit homes (place_at keys masks joint) k) (λ c. eqb (get_or homes c 0) (place_at keys masks joint k)) l
+    ∙ picked_either code (hit filed.homes (place_at keys masks joint) k) (λ c. eqb (get_or filed.homes c 0) (place_at keys masks joint k)) l
 
 -- ---- the joint move has the moves of a slot
 -- What two sets have is a part of the second.
@@ -105,44 +106,42 @@ meet_covered x y = same_set _ _ (λ i. omega (arith, bit-and y (bit_and x y) i, 
 covered_part : (x y : ℕ) → bit_and y x ≡ x → x ⊆ y
 covered_part x y e i h = omega (arith, h, bit-and y x i, ap (λ (z : ℕ). bit z i) e)
 
-module _ {code : List ℕ} {to : ℕ} {keys tests forks hints : List ℕ} {n : ℕ} {homes masks : List ℕ} {kinds : ℕ}
-    (f : Filing code to keys tests forks hints n homes masks kinds) (m : List ℕ) where
+module _ {code : List ℕ} {to : ℕ} {filed : Keys} (f : Filing code to filed) (m : List ℕ) where
   -- The place of the key that is looked up for a kind.
   abbrev found : ℕ → ℕ
-  found = place_at (take n keys) masks (joint_of m)
+  found = place_at (keys_in filed) filed.masks (joint_of m)
 
   -- It is looked up among the keys of the slots.
-  found_is : (x k : ℕ) → bit_and (get_or masks k 0) (joint_of m) ≡ x → found k ≡ place (key_of x) (keys_of code to)
+  found_is : (x k : ℕ) → bit_and (get_or filed.masks k 0) (joint_of m) ≡ x → found k ≡ place (key_of x) (keys_of code to)
   found_is x k e = ap₂ (λ (y : ℕ) (l : List ℕ). place (key_of y) l) e f.keys_are
 
   -- A slot whose moves are made is hit.
-  made_hit : (c : ℕ) → c < to → stirs (sets_in code c) (joint_of m) ≡ true → hit homes found kinds c ≡ true
+  made_hit : (c : ℕ) → c < to → stirs (sets_in code c) (joint_of m) ≡ true → hit filed.homes found filed.kinds c ≡ true
   unfolding stirs
   made_hit c h e =
       let d = need_in code c in
-      let part : bit_and (get_or masks (kind_of d) 0) (joint_of m) ≡ d =
+      let part : bit_and (get_or filed.masks (kind_of d) 0) (joint_of m) ≡ d =
       ap (λ (x : ℕ). bit_and x (joint_of m)) (f.masks_are (kind_of d) (kind_low d) ∙ mask_there code to c h)
       ∙ part_is d m (covered_part d (joint_of m) (eqb-true (bit_and (joint_of m) d) d e)) in
-      hit_at homes found kinds (kind_of d) c (omega (arith, f.kinds_are, kind_below code to c h)) (f.homes_are c h ∙ sym (found_is d (kind_of d) part))
+      hit_at filed.homes found filed.kinds (kind_of d) c (omega (arith, f.kinds_are, kind_below code to c h)) (f.homes_are c h ∙ sym (found_is d (kind_of d) part))
 
   -- The moves of a slot that is hit are made.
-  hit_made : (c : ℕ) → c < to → hit homes found kinds c ≡ true → stirs (sets_in code c) (joint_of m) ≡ true
+  hit_made : (c : ℕ) → c < to → hit filed.homes found filed.kinds c ≡ true → stirs (sets_in code c) (joint_of m) ≡ true
   unfolding stirs
   hit_made c h e =
       let d = need_in code c in
-      let (k, q) = hit_some homes found kinds c e in
-      let x = bit_and (get_or masks k 0) (joint_of m) in
+      let (k, q) = hit_some filed.homes found filed.kinds c e in
+      let x = bit_and (get_or filed.masks k 0) (joint_of m) in
       let same : d ≡ x =
       key_injective d x (place_injective (key_of d) (key_of x) (keys_of code to) (home_inside code to c h) (sym (f.homes_are c h) ∙ q ∙ found_is x k refl)) in
-      eq-eqb (bit_and (joint_of m) d) d (ap (bit_and (joint_of m)) same ∙ meet_covered (get_or masks k 0) (joint_of m) ∙ sym same)
+      eq-eqb (bit_and (joint_of m) d) d (ap (bit_and (joint_of m)) same ∙ meet_covered (get_or filed.masks k 0) (joint_of m) ∙ sym same)
 
 -- THE theorem: what the gifts have for a joint move, over all kinds, is what the slots give.
-pub given_next : {code : List ℕ} {to : ℕ} {keys tests forks hints : List ℕ} {n : ℕ} {homes masks : List ℕ} {kinds : ℕ} {l gifts : List ℕ}
-    → Filing code to keys tests forks hints n homes masks kinds → Gathered code homes n l gifts → ((j : ℕ) → j < length l → get_or l j 0 < to)
-    → (m : List ℕ) → given (take n keys) masks gifts (joint_of m) kinds ≡ next_by code (joint_of m) l
-given_next {code} {to} {keys} {tests} {forks} {hints} {n} {homes} {masks} {kinds} {l} f g below m =
-    given_hit (take n keys) masks g (omega (arith, f.count, ap length f.keys_are)) (joint_of m) kinds
-    ∙ picked_same code (hit homes (found f m) kinds) (λ c. stirs (sets_in code c) (joint_of m)) l
+pub given_next : {code : List ℕ} {to : ℕ} {filed : Keys} {l gifts : List ℕ} → Filing code to filed → Gathered code filed l gifts → ((j : ℕ) → j < length l → get_or l j 0 < to)
+    → (m : List ℕ) → given (keys_in filed) filed.masks gifts (joint_of m) filed.kinds ≡ next_by code (joint_of m) l
+given_next {code} {to} {filed} {l} f g below m =
+    given_hit (keys_in filed) filed.masks g (omega (arith, f.count, ap length f.keys_are)) (joint_of m) filed.kinds
+    ∙ picked_same code (hit filed.homes (found f m) filed.kinds) (λ c. stirs (sets_in code c) (joint_of m)) l
     (λ j k. same_test _ _ (hit_made f m (get_or l j 0) (below j k)) (made_hit f m (get_or l j 0) (below j k)))
 
 -- ---- the live slots

@@ -9,7 +9,7 @@ use native.Mathlib.Numerals.{add-one}
 use native.Mathlib.Omega.{arith}
 use borrow.Author.Tests.{eqb-true, eqb-false, eq-eqb, ltb-true}
 use lib.Dec.{eqb, ltb}
-use lib.ListN.{get_or, length, take, set, replicate, length-append, length-set, length-replicate}
+use lib.ListN.{get_or, length, set, replicate, length-append, length-set, length-replicate}
 use lib.Seq.{get_or-set_same, get_or-set_other}
 use Rattle.tables.specs.Lengths.{state_limit}
 use Rattle.sheet.specs.Limits.{most_rules}
@@ -18,9 +18,12 @@ use Rattle.meaning.specs.Filling.{grown}
 use Rattle.meaning.proofs.Explore.{place_in}
 use Rattle.meaning.proofs.Filling.{place_stays, place_end, grown_place, grown_more}
 use Rattle.lookup.specs.Tree.{link_limit}
+use Rattle.lookup.specs.declared.Tree.{Tree}
 use Rattle.lookup.proofs.Place.{place_le, place_here}
 use Rattle.lookup.proofs.Enrolling.{treed_first}
-use Rattle.keys.specs.Keys.{kind_room, key_room, kind_of, mask_of, key_of, need_in, keys_of, mask_at, kinds_of, upper_stirred, lower_stirred, hint_room, Hinted, Housed, Filing, Memo}
+use Rattle.keys.specs.declared.Keys.{Keys}
+use Rattle.keys.specs.declared.Memo.{Memo}
+use Rattle.keys.specs.Keys.{kind_room, key_room, kind_of, mask_of, key_of, need_in, keys_of, mask_at, kinds_of, upper_stirred, lower_stirred, hint_room, Hinted, keys_in, Findable, Housed, Filing, Remembers}
 use Rattle.keys.proofs.Parts.{kind_low}
 
 -- ---- places in a list that grows
@@ -123,47 +126,45 @@ first_hint = record { there = λ i h. there i; low = low; hints_long = length-se
     low (suc h) = omega (arith, zero_at hint_room (suc h))
 
 -- Nothing is filed in empty tables.
-pub filing_start : (code : List ℕ) {keys tests forks hints homes masks : List ℕ} → keys ≡ replicate key_room 0 → tests ≡ replicate state_limit 0 → forks ≡ replicate link_limit 0
-    → hints ≡ replicate hint_room 0 → homes ≡ replicate most_rules 0 → masks ≡ replicate kind_room 0 → Filing code 0 keys tests forks (set hints 0 1) 1 homes masks 0
+pub filing_start : (code : List ℕ) {tree : Tree} → tree.tests ≡ replicate state_limit 0 → tree.forks ≡ replicate link_limit 0
+    → Filing code 0 (record { keys = replicate key_room 0; tree = tree; hints = set (replicate hint_room 0) 0 1; homes = replicate most_rules 0; masks = replicate kind_room 0; count = 1; kinds = 0 })
 unfolding keys_of mask_at kinds_of
-filing_start code k t f g h m = rw (k, t, f, g, h, m) record {
-  tree = treed_first (replicate key_room 0) (omega arith);
-  hinted = first_hint;
+filing_start code t f = record {
+  found = record { tree = rw (t, f) (treed_first (replicate key_room 0) (omega arith)); hinted = first_hint };
   keys_are = refl;
   count = refl;
   homes_are = λ i l. absurd (omega arith);
-  masks_are = λ k l. zero_at kind_room k;
+  masks_are = λ j l. zero_at kind_room j;
   kinds_are = refl;
   keys_long = refl;
   homes_long = refl;
   masks_long = refl;
 }
 
-module _ {code : List ℕ} {c : ℕ} {keys tests forks hints : List ℕ} {n : ℕ} {homes masks : List ℕ} {kinds : ℕ} (f : Filing code c keys tests forks hints n homes masks kinds) where
-  -- The end.
-  pub filing_end : {to : ℕ} → c ≤ to → to ≤ c → Filing code to keys tests forks hints n homes masks kinds
-  filing_end {to} g h = let e : c ≡ to = omega arith in subst (λ (i : ℕ). Filing code i keys tests forks hints n homes masks kinds) e f
-
+module _ {code : List ℕ} {c : ℕ} {k : Keys} (f : Filing code c k) where
   -- There is room for a key more.
-  pub filing_room : n ≤ c + 1
+  pub filing_room : k.count ≤ c + 1
   filing_room = omega (arith, f.count, keys_few code c)
 
+  -- The mask and the number of kinds have no part in finding a key.
+  pub filing_found : (kind mask kinds : ℕ) → Findable (record k { masks = set k.masks kind mask; kinds = kinds })
+  filing_found kind mask kinds = record { tree = f.found.tree; hinted = f.found.hinted }
+
   -- One slot more.
-  pub filing_on : {d key kind mask more kinds' : ℕ} {keys' tests' forks' hints' homes' : List ℕ} → c < most_rules → d ≡ need_in code c → kind ≡ kind_of d → mask ≡ mask_of kind → kinds' ≡ max kinds (kind + 1)
-      → key ≡ key_of d → Housed n key c keys homes more keys' tests' forks' hints' homes' → Filing code (c + 1) keys' tests' forks' hints' more homes' (set masks kind mask) kinds'
+  pub filing_on : {d key kind mask kinds : ℕ} {k' : Keys} → c < most_rules → d ≡ need_in code c → kind ≡ kind_of d → mask ≡ mask_of kind → kinds ≡ max k.kinds (kind + 1)
+      → key ≡ key_of d → Housed key c (record k { masks = set k.masks kind mask; kinds = kinds }) k' → Filing code (c + 1) k'
   unfolding keys_of mask_at kinds_of
-  filing_on {d} {key} {kind} {mask} {more} {kinds'} {keys'} {tests'} {forks'} {hints'} {homes'} room p q r s v h =
-      subst (λ (i : ℕ). Filing code i keys' tests' forks' hints' more homes' (set masks kind mask) kinds') (sym (add-one c)) record {
-        tree = h.tree;
-        hinted = h.hinted;
+  filing_on {d} {key} {kind} {mask} {kinds} {k'} room p q r s v h =
+      subst (λ (i : ℕ). Filing code i k') (sym (add-one c)) record {
+        found = h.found;
         keys_are = h.keys_are ∙ grown_is;
         count = h.count ∙ ap length grown_is;
         homes_are = λ i l. ap (λ (t : List ℕ). get_or t i 0) h.homes_are ∙ home i l;
-        masks_are = λ k l. at k l (eqb kind k) refl ∙ mask_suc k;
-        kinds_are = s ∙ kinds_suc;
+        masks_are = λ j l. ap (λ (t : List ℕ). get_or t j 0) h.masks_are ∙ at j l (eqb kind j) refl ∙ mask_suc j;
+        kinds_are = h.kinds_are ∙ s ∙ kinds_suc;
         keys_long = h.keys_long ∙ f.keys_long;
-        homes_long = ap length h.homes_are ∙ length-set homes c _ ∙ f.homes_long;
-        masks_long = length-set masks kind mask ∙ f.masks_long;
+        homes_long = ap length h.homes_are ∙ length-set k.homes c _ ∙ f.homes_long;
+        masks_long = ap length h.masks_are ∙ length-set k.masks kind mask ∙ f.masks_long;
       }
     where
       need : ℕ
@@ -176,35 +177,35 @@ module _ {code : List ℕ} {c : ℕ} {keys tests forks hints : List ℕ} {n : �
       key_is : key ≡ key_of need
       key_is = v ∙ ap key_of p
 
-      grown_is : grown (take n keys) key ≡ keys_of code (suc c)
+      grown_is : grown (keys_in k) key ≡ keys_of code (suc c)
       grown_is = ap₂ grown f.keys_are key_is
 
-      mask_suc : (k : ℕ) → cond (eqb kind k) (mask_of k) (mask_at code c k) ≡ mask_at code (suc c) k
-      mask_suc k = ap (λ (x : ℕ). cond (eqb x k) (mask_of k) (mask_at code c k)) kind_is
+      mask_suc : (j : ℕ) → cond (eqb kind j) (mask_of j) (mask_at code c j) ≡ mask_at code (suc c) j
+      mask_suc j = ap (λ (x : ℕ). cond (eqb x j) (mask_of j) (mask_at code c j)) kind_is
 
-      kinds_suc : max kinds (kind + 1) ≡ kinds_of code (suc c)
+      kinds_suc : max k.kinds (kind + 1) ≡ kinds_of code (suc c)
       kinds_suc = ap₂ (λ (x y : ℕ). max x y) f.kinds_are (add-one kind ∙ ap suc kind_is)
 
       -- The mask of each kind.
-      at : (k : ℕ) → k < kind_room → (t : Bool) → eqb kind k ≡ t → get_or (set masks kind mask) k 0 ≡ cond (eqb kind k) (mask_of k) (mask_at code c k)
-      at k l true e =
-          let j : kind ≡ k = eqb-true kind k e in
-          ap (λ (i : ℕ). get_or (set masks kind mask) i 0) (sym j)
-          ∙ get_or-set_same masks kind mask 0 (omega (arith, f.masks_long, kind_is, kind_low need))
+      at : (j : ℕ) → j < kind_room → (t : Bool) → eqb kind j ≡ t → get_or (set k.masks kind mask) j 0 ≡ cond (eqb kind j) (mask_of j) (mask_at code c j)
+      at j l true e =
+          let o : kind ≡ j = eqb-true kind j e in
+          ap (λ (i : ℕ). get_or (set k.masks kind mask) i 0) (sym o)
+          ∙ get_or-set_same k.masks kind mask 0 (omega (arith, f.masks_long, kind_is, kind_low need))
           ∙ r
-          ∙ ap mask_of j
-          ∙ ap (λ (t : Bool). cond t (mask_of k) (mask_at code c k)) (sym e)
-      at k l false e =
-          get_or-set_other masks kind k mask 0 (λ j. eqb-false kind k e (sym j)) ∙ f.masks_are k l ∙ ap (λ (t : Bool). cond t (mask_of k) (mask_at code c k)) (sym e)
+          ∙ ap mask_of o
+          ∙ ap (λ (t : Bool). cond t (mask_of j) (mask_at code c j)) (sym e)
+      at j l false e =
+          get_or-set_other k.masks kind j mask 0 (λ o. eqb-false kind j e (sym o)) ∙ f.masks_are j l ∙ ap (λ (t : Bool). cond t (mask_of j) (mask_at code c j)) (sym e)
 
       -- The home of each slot.
-      place_is : place key (take n keys) ≡ place (key_of need) (keys_of code c)
+      place_is : place key (keys_in k) ≡ place (key_of need) (keys_of code c)
       place_is = ap₂ place key_is f.keys_are
 
-      home : (i : ℕ) → i < suc c → get_or (set homes c (place key (take n keys))) i 0 ≡ place (key_of (need_in code i)) (keys_of code (suc c))
-      home i l = up_to (λ j. get_or (set homes c (place key (take n keys))) j 0 ≡ place (key_of (need_in code j)) (grown (keys_of code c) (key_of need))) c i
-          (get_or-set_same homes c _ 0 (omega (arith, f.homes_long)) ∙ place_is ∙ sym (place_new (key_of need) (keys_of code c)))
-          (λ k. get_or-set_other homes c i _ 0 (λ e. omega arith) ∙ f.homes_are i k ∙ sym (place_grown (key_of (need_in code i)) (key_of need) (keys_of code c) (home_inside code c i k)))
+      home : (i : ℕ) → i < suc c → get_or (set k.homes c (place key (keys_in k))) i 0 ≡ place (key_of (need_in code i)) (keys_of code (suc c))
+      home i l = up_to (λ j. get_or (set k.homes c (place key (keys_in k))) j 0 ≡ place (key_of (need_in code j)) (grown (keys_of code c) (key_of need))) c i
+          (get_or-set_same k.homes c _ 0 (omega (arith, f.homes_long)) ∙ place_is ∙ sym (place_new (key_of need) (keys_of code c)))
+          (λ j. get_or-set_other k.homes c i _ 0 (λ e. omega arith) ∙ f.homes_are i j ∙ sym (place_grown (key_of (need_in code i)) (key_of need) (keys_of code c) (home_inside code c i j)))
           l
 
 -- ---- what is remembered
@@ -220,11 +221,13 @@ first_place code (suc c) =
     some (suc c) = omega (arith, some c, (length_grown (key_of (need_in code c)) (keys_of code c)).0)
 
 -- Empty tables remember the first key.
-pub memo_start : {code : List ℕ} {c : ℕ} {keys tests forks hints : List ℕ} {n : ℕ} {homes masks : List ℕ} {kinds : ℕ} {asked places : List ℕ} → Filing code c keys tests forks hints n homes masks kinds
-    → asked ≡ replicate kind_room 0 → places ≡ replicate kind_room 0 → Memo (take n keys) asked places
+pub memo_start : {code : List ℕ} {c : ℕ} {k : Keys} {m : Memo} → Filing code c k → m.asked ≡ replicate kind_room 0 → m.places ≡ replicate kind_room 0 → Remembers (keys_in k) m
 unfolding key_of upper_stirred lower_stirred
-memo_start {code} {c} {keys} {n = n} f a p = rw (a, p) record {
-  places_are = λ k h. zero_at kind_room k ∙ sym (ap (λ (x : ℕ). place (key_of x) (take n keys)) (zero_at kind_room k) ∙ ap (place 0) f.keys_are ∙ first_place code c);
-  asked_long = refl;
-  places_long = refl;
+memo_start {code} {c} {k} {m} f a p = record {
+  places_are = λ j h.
+      ap (λ (l : List ℕ). get_or l j 0) p
+      ∙ zero_at kind_room j
+      ∙ sym (ap (λ (x : ℕ). place (key_of x) (keys_in k)) (ap (λ (l : List ℕ). get_or l j 0) a ∙ zero_at kind_room j) ∙ ap (place 0) f.keys_are ∙ first_place code c);
+  asked_long = ap length a;
+  places_long = ap length p;
 }

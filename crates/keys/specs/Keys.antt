@@ -10,6 +10,8 @@ use Rattle.meaning.specs.Filling.{grown}
 use Rattle.lookup.specs.Tree.{Treed}
 use Rattle.codes.specs.Codes.{bits, calm, stirs}
 use Rattle.codes.specs.Table.{width, word, sets_in, member_in}
+use Rattle.keys.specs.declared.Keys.{Keys}
+use Rattle.keys.specs.declared.Memo.{Memo}
 
 -- ---- what rules give
 -- The slots below c whose sets are calm, ascending.
@@ -118,49 +120,54 @@ pub record Hinted (keys hints : List ℕ) : Type 0 where
   pub low : (h : ℕ) → get_or hints h 0 ≤ length keys
   pub hints_long : length hints ≡ hint_room
 
--- A key more, if it is new: the first r entries are the keys then, and its place is noted in entry c.
-pub record Housed (n key c : ℕ) (keys homes : List ℕ) (r : ℕ) (keys' tests' forks' hints' homes' : List ℕ) : Type 0 where
-  pub keys_are : take r keys' ≡ grown (take n keys) key
-  pub count : r ≡ length (grown (take n keys) key)
-  pub tree : Treed keys' r tests' forks'
-  pub hinted : Hinted (take r keys') hints'
-  pub homes_are : homes' ≡ set homes c (place key (take n keys))
-  pub keys_long : length keys' ≡ length keys
+-- The keys that are filed.
+abbrev pub keys_in : Keys → List ℕ
+keys_in k = take k.count k.keys
 
--- The first n entries of the table of keys are the keys of the slots below c, each slot's home is the place of its key, and each kind has its mask.
-pub record Filing (code : List ℕ) (c : ℕ) (keys tests forks hints : List ℕ) (n : ℕ) (homes masks : List ℕ) (kinds : ℕ) : Type 0 where
-  pub tree : Treed keys n tests forks
-  pub hinted : Hinted (take n keys) hints
-  pub keys_are : take n keys ≡ keys_of code c
-  pub count : n ≡ length (keys_of code c)
-  pub homes_are : (i : ℕ) → i < c → get_or homes i 0 ≡ place (key_of (need_in code i)) (keys_of code c)
-  pub masks_are : (k : ℕ) → k < kind_room → get_or masks k 0 ≡ mask_at code c k
-  pub kinds_are : kinds ≡ kinds_of code c
-  pub keys_long : length keys ≡ key_room
-  pub homes_long : length homes ≡ most_rules
-  pub masks_long : length masks ≡ kind_room
+-- They can be found: they stand in their tree, and each has its hint.
+pub record Findable (k : Keys) : Type 0 where
+  pub tree : Treed k.keys k.count k.tree.tests k.tree.forks
+  pub hinted : Hinted (keys_in k) k.hints
+
+-- A key more, if it is new, and its place is noted in entry c.
+pub record Housed (key c : ℕ) (k k' : Keys) : Type 0 where
+  pub keys_are : keys_in k' ≡ grown (keys_in k) key
+  pub count : k'.count ≡ length (grown (keys_in k) key)
+  pub found : Findable k'
+  pub homes_are : k'.homes ≡ set k.homes c (place key (keys_in k))
+  pub keys_long : length k'.keys ≡ length k.keys
+  pub masks_are : k'.masks ≡ k.masks
+  pub kinds_are : k'.kinds ≡ k.kinds
+
+-- The keys are those of the slots below c, each slot's home is the place of its key, and each kind has its mask.
+pub record Filing (code : List ℕ) (c : ℕ) (k : Keys) : Type 0 where
+  pub found : Findable k
+  pub keys_are : keys_in k ≡ keys_of code c
+  pub count : k.count ≡ length (keys_of code c)
+  pub homes_are : (i : ℕ) → i < c → get_or k.homes i 0 ≡ place (key_of (need_in code i)) (keys_of code c)
+  pub masks_are : (j : ℕ) → j < kind_room → get_or k.masks j 0 ≡ mask_at code c j
+  pub kinds_are : k.kinds ≡ kinds_of code c
+  pub keys_long : length k.keys ≡ key_room
+  pub homes_long : length k.homes ≡ most_rules
+  pub masks_long : length k.masks ≡ kind_room
 
 -- ---- once a position: what live slots give is gathered by their homes
 -- What the slots of a list give that have their home at e.
 abbrev pub gift_of : List ℕ → (homes : List ℕ) → ℕ → List ℕ → ℕ
 gift_of code homes e l = picked_by (λ c. eqb (get_or homes c 0) e) code l
 
--- The entries up to n are zero.
-abbrev pub Wiped : ℕ → List ℕ → Type 0
-Wiped n gifts = (e : ℕ) → e ≤ n → get_or gifts e 0 ≡ 0
-
--- The table has, up to n, what the slots of a list give.
-pub record Gathered (code homes : List ℕ) (n : ℕ) (l gifts : List ℕ) : Type 0 where
-  pub gifts_are : (e : ℕ) → e ≤ n → get_or gifts e 0 ≡ gift_of code homes e l
+-- The gifts are, for each key and for what has none, what the slots of a list give.
+pub record Gathered (code : List ℕ) (k : Keys) (l gifts : List ℕ) : Type 0 where
+  pub gifts_are : (e : ℕ) → e ≤ k.count → get_or gifts e 0 ≡ gift_of code k.homes e l
   pub gifts_long : length gifts ≡ gift_room
 
--- Each slot below `to` stands in the table of codes, its member can be added to a set, and its home is no higher than n.
-pub record Homes (code : List ℕ) (to : ℕ) (homes : List ℕ) (n : ℕ) : Type 0 where
+-- Each slot below `to` stands in the table of codes, its member can be added to a set, and its home is no higher than the number of keys.
+pub record Homes (code : List ℕ) (to : ℕ) (k : Keys) : Type 0 where
   pub inside : width * to ≤ length code
   pub members : (c : ℕ) → c < to → member_in code c < bits
-  pub homes_long : to ≤ length homes
-  pub homes_low : (c : ℕ) → c < to → get_or homes c 0 ≤ n
-  pub few : n < gift_room
+  pub homes_long : to ≤ length k.homes
+  pub homes_low : (c : ℕ) → c < to → get_or k.homes c 0 ≤ k.count
+  pub few : k.count < gift_room
 
 -- ---- once a joint move: the gifts are looked up
 -- The place of the key of what a joint move has of the roles of kind k.
@@ -173,7 +180,7 @@ given keys masks gifts joint zero = 0
 given keys masks gifts joint (suc k) = bit_or (given keys masks gifts joint k) (get_or gifts (place_at keys masks joint k) 0)
 
 -- For each kind a set of moves that was asked for, and the place of its key.
-pub record Memo (keys asked places : List ℕ) : Type 0 where
-  pub places_are : (k : ℕ) → k < kind_room → get_or places k 0 ≡ place (key_of (get_or asked k 0)) keys
-  pub asked_long : length asked ≡ kind_room
-  pub places_long : length places ≡ kind_room
+pub record Remembers (keys : List ℕ) (m : Memo) : Type 0 where
+  pub places_are : (k : ℕ) → k < kind_room → get_or m.places k 0 ≡ place (key_of (get_or m.asked k 0)) keys
+  pub asked_long : length m.asked ≡ kind_room
+  pub places_long : length m.places ≡ kind_room

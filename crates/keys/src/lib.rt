@@ -1,18 +1,16 @@
 // Successors by keys: what the rules give is gathered once a position, by the moves that they wait for, and looked up for each joint move.
 #![tactic(auto)]
 
-ghost use Rattle.std.specs.Prelude.{◌≡◌, ℕ, ◌+◌, ◌*◌, ◌%◌, ◌≤◌, ◌<◌, max, length, take, replicate, get_or};
-ghost use Rattle.tables.specs.Lengths.{state_limit};
+ghost use Rattle.std.specs.Prelude.{◌≡◌, ◌+◌, ◌*◌, ◌%◌, ◌≤◌, ◌<◌, MatchOption, length, replicate};
 ghost use Rattle.sheet.specs.Limits.{most_rules};
 ghost use Rattle.meaning.specs.Lists.{place};
-ghost use Rattle.lookup.specs.Tree.{link_limit, Treed};
-ghost use Rattle.codes.specs.Codes.{bits, made_by, joint_of};
-ghost use Rattle.codes.specs.Table.{width, member_in};
-ghost use Rattle.keys.specs.Keys.{own_moves, kind_of, mask_of, upper_stirred, lower_stirred, key_of, key_room, kind_room, gift_room, hint_room, Hinted, Housed, Filing, alive, Gathered, Homes, Wiped, given, Memo};
+ghost use Rattle.codes.specs.Codes.{made_by, joint_of};
+ghost use Rattle.codes.specs.Table.{width};
+ghost use Rattle.keys.specs.Keys.{own_moves, kind_of, mask_of, upper_stirred, lower_stirred, key_of, key_room, kind_room, gift_room, hint_room, keys_in, Findable, Housed, Filing, alive, Gathered, Homes, given, Remembers};
 
 use facts::FactSet;
 use firing::{calm_at, with_member};
-use lookup::{enroll, seek};
+use lookup::Tree;
 
 // How many rules may be filed: no more than a sheet has.
 pub const RULE_ROOM: usize = 512;
@@ -35,85 +33,86 @@ const ROLES: u8 = 4;
 // Half of the digits of a word, as a factor.
 const HALF: u64 = 0x100000000;
 
-// How many keys there are, and one more than the highest kind.
-#[derive(Clone, Copy)]
-pub struct Filed {
-    pub keys: usize,
+// The rules, filed by the keys of the moves that they wait for: the keys in their tree, with their hints; each rule's home; the mask of each kind; how many keys there are, and
+// one more than the highest kind.
+#[derive(Drop)]
+pub struct Keys {
+    pub keys: [u64; KEY_ROOM],
+    pub tree: Tree,
+    pub hints: [u16; HINT_ROOM],
+    pub homes: [u16; RULE_ROOM],
+    pub masks: [u64; KIND_ROOM],
+    pub count: usize,
     pub kinds: usize,
 }
 
-// A move as a number of 64 bits.
-fn widen(x: u16) -> u64
-    ensures { result ≡ x }
-{
-    x as u64
-}
-
-// A number of sixteen bits as an index.
-fn index(x: u16) -> usize
-    ensures { result ≡ x }
-{
-    x as usize
+// For each kind the set of moves that was asked for last, and the place of its key.
+#[derive(Drop)]
+pub struct Memo {
+    pub asked: [u64; KIND_ROOM],
+    pub places: [u16; KIND_ROOM],
 }
 
 // ---- sets of moves
 
 // The set x with a role's move in it. No role has a move from 16 on.
-fn made_by(role: u64, m: u16, x: u64) -> u64
+fn made_by(role: usize, m: u16, x: u64) -> u64
     requires { role < 4 }
     ensures { result ≡ made_by role m x }
 {
     if m < 16 {
-        return with_member(x, 16 * role + widen(m));
+        with_member(x, 16 * role as u64 + u64::from(m))
+    } else {
+        x
+    }
+}
+
+// A joint move as a set.
+#[tactic(auto, using(crate::proofs::Laws::made_all))]
+pub fn joint_of(moves: [u16; 4]) -> u64
+    ensures { result ≡ joint_of moves }
+{
+    let mut x = 0;
+    for (role, m) in moves.iter().enumerate() {
+        x = made_by(role, *m, x);
     }
     x
 }
 
-// A joint move as a set.
-pub fn joint_of(moves: [u16; 4]) -> u64
-    ensures { result ≡ joint_of moves }
-{
-    let mut x = made_by(0, moves[0], 0);
-    x = made_by(1, moves[1], x);
-    x = made_by(2, moves[2], x);
-    made_by(3, moves[3], x)
-}
-
 // All moves of a role, as a set.
+#[tactic(auto, using(crate::proofs::Parts::own_shifted))]
 fn own_moves(role: u8) -> u64
     requires { role < 4 }
     ensures { result ≡ own_moves role }
 {
-    0xffffu64 << (16 * (role as u64))
+    0xffff << (16 * role)
 }
 
 // The kind of a rule that waits for the moves d: the set of the roles that make them.
+#[tactic(auto, using(crate::proofs::Laws::named_none, crate::proofs::Laws::named_more))]
 fn kind_of(d: u64) -> u64
     ensures { result ≡ kind_of d }
 {
     let mut kind = FactSet::of(0);
-    let mut role: u8 = 0;
-    while role < ROLES {
+    for role in 0..ROLES {
         if own_moves(role) & d != 0 {
             kind = kind.with(role);
         }
-        role += 1;
     }
     kind.number()
 }
 
 // All moves of the roles of a kind.
+#[tactic(auto, using(crate::proofs::Laws::moves_none, crate::proofs::Laws::moves_more))]
 fn mask_of(kind: u64) -> u64
     ensures { result ≡ mask_of kind }
 {
     let roles = FactSet::of(kind);
-    let mut x: u64 = 0;
-    let mut role: u8 = 0;
-    while role < ROLES {
+    let mut x = 0;
+    for role in 0..ROLES {
         if roles.has(role) {
-            x = x | own_moves(role);
+            x |= own_moves(role);
         }
-        role += 1;
     }
     x
 }
@@ -121,6 +120,7 @@ fn mask_of(kind: u64) -> u64
 // ---- keys
 
 // A set, with its upper half stirred by its lower one.
+#[tactic(auto, unfolding(crate::specs::Keys::upper_stirred))]
 fn stir_upper(x: u64) -> u64
     ensures { result ≡ upper_stirred x }
 {
@@ -128,6 +128,7 @@ fn stir_upper(x: u64) -> u64
 }
 
 // A set, with its lower half stirred by its upper one.
+#[tactic(auto, unfolding(crate::specs::Keys::lower_stirred))]
 fn stir_lower(x: u64) -> u64
     ensures { result ≡ lower_stirred x }
 {
@@ -141,219 +142,140 @@ fn key_of(d: u64) -> u64
     stir_lower(stir_upper(d))
 }
 
-// ---- once a sheet
-
 // The low digits of a key.
 fn low_of(key: u64) -> usize
     ensures { result ≡ key % hint_room }
 {
-    (key % 2048) as usize
+    key as usize % HINT_ROOM
 }
 
-// The place of a key among the first n, or n. Mostly a hint tells: there is none where no key has these low digits.
-fn find(keys: &[u64], tests: &[u8], forks: &[u16], hints: &[u16], n: usize, key: u64) -> usize
-    requires { Treed keys.now n tests.now forks.now × Hinted (take n keys.now) hints.now }
-    ensures { result ≡ place key (take n keys.now) }
-{
-    let low = low_of(key);
-    let hint = index(hints[low]);
-    if hint == 0 {
-        return n;
+impl Keys {
+    // The place of a key. Mostly a hint tells: there is none where no key has these low digits.
+    fn find(&self, key: u64) -> Option<usize>
+        requires { Findable self.now }
+        ensures { MatchOption result (place key (keys_in self.now) ≡ self.now.count)
+            (λ at. (at < self.now.count) × (place key (keys_in self.now) ≡ at)) }
+    {
+        let hint = usize::from(self.hints[low_of(key)]);
+        let at = hint.checked_sub(1)?;
+        if self.keys[at] == key {
+            return Some(at);
+        }
+        self.tree.seek(&self.keys, self.count, key)
     }
-    let at = hint - 1;
-    if keys[at] == key {
-        return at;
+
+    // ---- once a sheet
+
+    // A key more, if it is new, and its place noted in entry c.
+    fn house(&mut self, key: u64, c: usize)
+        requires { Findable self.old × (self.old.count < key_room) × (c < most_rules) }
+        ensures { Housed key c self.old self.new }
+    {
+        if let Some(at) = self.find(key) {
+            self.homes[c] = at as u16;
+            return;
+        }
+        let n = self.count;
+        self.homes[c] = n as u16;
+        self.tree.enroll(&self.keys, n, key);
+        self.keys[n] = key;
+        self.hints[low_of(key)] = (n + 1) as u16;
+        self.count = n + 1;
     }
-    seek(keys, tests, forks, n, key)
-}
 
-// A key more, if it is new, and its place noted in entry c. The answer is how many keys there are then.
-fn house(
-    keys: &mut [u64],
-    tests: &mut [u8],
-    forks: &mut [u16],
-    n: usize,
-    key: u64,
-    homes: &mut [u16],
-    c: usize,
-    hints: &mut [u16],
-) -> usize
-    requires { Treed keys.old n tests.old forks.old × (n < length keys.old) × (n < state_limit) × (c < length homes.old)
-        × Hinted (take n keys.old) hints.old }
-    ensures { Housed n key c keys.old homes.old result keys.new tests.new forks.new hints.new homes.new }
-{
-    let at = find(keys, tests, forks, hints, n, key);
-    homes[c] = at as u16;
-    if at < n {
-        return n;
+    // Slot c is filed: its key, its home, and the mask of its kind.
+    #[tactic(auto, using(crate::proofs::Parts::kind_low))]
+    fn file_slot(&mut self, code: &[u64], c: usize)
+        requires { (width * (c + 1) ≤ length code.now) × (c < most_rules) × Filing code.now c self.old }
+        ensures { Filing code.now (c + 1) self.new }
+    {
+        let d = code[6 * c + 4];
+        let kind = kind_of(d);
+        let k = kind as usize;
+        self.masks[k] = mask_of(kind);
+        self.kinds = self.kinds.max(k + 1);
+        self.house(key_of(d), c);
     }
-    enroll(keys, tests, forks, n, key);
-    keys[n] = key;
-    let low = low_of(key);
-    hints[low] = (n + 1) as u16;
-    n + 1
-}
 
-// The greater of two numbers.
-fn greater(a: usize, b: usize) -> usize
-    ensures { result ≡ max a b }
-{
-    if a < b {
-        return b;
+    // The slots below `to` are filed.
+    pub fn file(code: &[u64], to: usize) -> Self
+        requires { (width * to ≤ length code.now) × (to ≤ most_rules) }
+        ensures { Filing code.now to result }
+    {
+        let mut filed = Self {
+            keys: [0; KEY_ROOM],
+            tree: Tree::new(),
+            hints: [0; HINT_ROOM],
+            homes: [0; RULE_ROOM],
+            masks: [0; KIND_ROOM],
+            count: 1,
+            kinds: 0,
+        };
+        filed.hints[0] = 1;
+        for c in 0..to {
+            filed.file_slot(code, c);
+        }
+        filed
     }
-    a
-}
 
-// Slot c is filed: its key, its home, and the mask of its kind.
-fn file_slot(
-    code: &[u64],
-    c: usize,
-    keys: &mut [u64],
-    tests: &mut [u8],
-    forks: &mut [u16],
-    hints: &mut [u16],
-    homes: &mut [u16],
-    masks: &mut [u64],
-    filed: Filed,
-) -> Filed
-    requires { (width * (c + 1) ≤ length code.now) × (c < most_rules)
-        × Filing code.now c keys.old tests.old forks.old hints.old filed.keys homes.old masks.old filed.kinds }
-    ensures { Filing code.now (c + 1) keys.new tests.new forks.new hints.new result.keys homes.new masks.new result.kinds }
-{
-    let d = code[6 * c + 4];
-    let kind = kind_of(d);
-    let k = kind as usize;
-    masks[k] = mask_of(kind);
-    let kinds = greater(filed.kinds, k + 1);
-    let n = house(keys, tests, forks, filed.keys, key_of(d), homes, c, hints);
-    Filed { keys: n, kinds }
-}
+    // ---- once a position
 
-// The slots below `to` are filed, in empty tables.
-pub fn file(
-    code: &[u64],
-    to: usize,
-    keys: &mut [u64],
-    tests: &mut [u8],
-    forks: &mut [u16],
-    hints: &mut [u16],
-    homes: &mut [u16],
-    masks: &mut [u64],
-) -> Filed
-    requires { (width * to ≤ length code.now) × (to ≤ most_rules) × (keys.old ≡ replicate key_room 0) × (tests.old ≡ replicate state_limit 0) × (forks.old ≡ replicate link_limit 0)
-        × (hints.old ≡ replicate hint_room 0) × (homes.old ≡ replicate most_rules 0) × (masks.old ≡ replicate kind_room 0) }
-    ensures { Filing code.now to keys.new tests.new forks.new hints.new result.keys homes.new masks.new result.kinds }
-{
-    hints[0] = 1;
-    let mut filed = Filed { keys: 1, kinds: 0 };
-    let mut c: usize = 0;
-    while c < to {
-        filed = file_slot(code, c, keys, tests, forks, hints, homes, masks, filed);
-        c += 1;
+    // What the slots below `to` give whose facts and views hold, gathered by their homes.
+    pub fn gather(&self, code: &[u64], to: usize, facts: u64, views: u64, gifts: &mut [u64])
+        requires { Homes code.now to self.now × (length gifts.old ≡ gift_room) }
+        ensures { Gathered code.now self.now (alive code.now facts views to) gifts.new }
+    {
+        gifts[..=self.count].fill(0);
+        for c in 0..to {
+            if calm_at(code, c, facts, views) {
+                let home = usize::from(self.homes[c]);
+                gifts[home] = with_member(gifts[home], code[6 * c + 5]);
+            }
+        }
     }
-    filed
-}
 
-// ---- once a position
+    // ---- once a joint move
 
-// No gifts up to entry n.
-fn wipe(gifts: &mut [u64], n: usize)
-    requires { n < length gifts.old }
-    ensures { (length gifts.new ≡ length gifts.old) × Wiped n gifts.new }
-{
-    let mut e: usize = 0;
-    while e <= n {
-        gifts[e] = 0;
-        e += 1;
+    // The place of the key of a set of moves, `count` for none: that entry of the gifts stays empty. It is looked up where the set is not the one that was asked for before.
+    fn recall(&self, part: u64, k: usize, memo: &mut Memo) -> usize
+        requires { Findable self.now × (k < kind_room) × Remembers (keys_in self.now) memo.old }
+        ensures { (result ≡ place (key_of part) (keys_in self.now)) × Remembers (keys_in self.now) memo.new }
+    {
+        if memo.asked[k] == part {
+            return usize::from(memo.places[k]);
+        }
+        let at = self.find(key_of(part)).unwrap_or(self.count);
+        memo.asked[k] = part;
+        memo.places[k] = at as u16;
+        at
     }
-}
 
-// What slot c gives, where its facts and views hold, comes to its home.
-fn gather_slot(code: &[u64], c: usize, facts: u64, views: u64, homes: &[u16], gifts: &mut [u64])
-    requires { (width * (c + 1) ≤ length code.now) × (member_in code.now c < bits) × (c < length homes.now) × (get_or homes.now c 0 < length gifts.old) }
-    ensures { (n : ℕ) → Gathered code.now homes.now n (alive code.now facts views c) gifts.old
-        → Gathered code.now homes.now n (alive code.now facts views (c + 1)) gifts.new }
-{
-    if calm_at(code, c, facts, views) {
-        let home = index(homes[c]);
-        gifts[home] = with_member(gifts[home], code[6 * c + 5]);
+    // What the gifts have for a joint move: for each kind that of the key of what the move has of its roles.
+    #[tactic(auto, using(crate::proofs::Laws::at_low))]
+    pub fn give(&self, gifts: &[u64], joint: u64, memo: &mut Memo) -> u64
+        requires { Findable self.now × (self.now.kinds ≤ kind_room) × (self.now.count < length gifts.now)
+            × Remembers (keys_in self.now) memo.old }
+        ensures { (result ≡ given (keys_in self.now) self.now.masks gifts.now joint self.now.kinds)
+            × Remembers (keys_in self.now) memo.new }
+    {
+        let mut x = 0;
+        for k in 0..self.kinds {
+            let at = self.recall(self.masks[k] & joint, k, memo);
+            x |= gifts[at];
+        }
+        x
     }
 }
 
-// What the slots below `to` give whose facts and views hold, gathered by their homes.
-pub fn gather(
-    code: &[u64],
-    to: usize,
-    facts: u64,
-    views: u64,
-    homes: &[u16],
-    n: usize,
-    gifts: &mut [u64],
-)
-    requires { Homes code.now to homes.now n × (length gifts.old ≡ gift_room) }
-    ensures { Gathered code.now homes.now n (alive code.now facts views to) gifts.new }
-{
-    wipe(gifts, n);
-    let mut c: usize = 0;
-    while c < to {
-        gather_slot(code, c, facts, views, homes, gifts);
-        c += 1;
+impl Memo {
+    // The empty set was asked for, of every kind.
+    pub fn new() -> Self
+        ensures asked { result.asked ≡ replicate kind_room 0 }
+        ensures places { result.places ≡ replicate kind_room 0 }
+    {
+        Self {
+            asked: [0; KIND_ROOM],
+            places: [0; KIND_ROOM],
+        }
     }
-}
-
-// ---- once a joint move
-
-// The place of the key of a set of moves; it is looked up where the set is not the one that was asked for before.
-fn recall(
-    keys: &[u64],
-    tests: &[u8],
-    forks: &[u16],
-    hints: &[u16],
-    n: usize,
-    part: u64,
-    k: usize,
-    asked: &mut [u64],
-    places: &mut [u16],
-) -> usize
-    requires { Treed keys.now n tests.now forks.now × Hinted (take n keys.now) hints.now × (k < kind_room) × Memo (take n keys.now) asked.old places.old }
-    ensures { (result ≡ place (key_of part) (take n keys.now)) × Memo (take n keys.now) asked.new places.new }
-{
-    if asked[k] == part {
-        return index(places[k]);
-    }
-    let at = find(keys, tests, forks, hints, n, key_of(part));
-    asked[k] = part;
-    places[k] = at as u16;
-    at
-}
-
-// What the gifts have for a joint move: for each kind that of the key of what the move has of its roles.
-pub fn give(
-    keys: &[u64],
-    tests: &[u8],
-    forks: &[u16],
-    hints: &[u16],
-    filed: Filed,
-    masks: &[u64],
-    gifts: &[u64],
-    joint: u64,
-    asked: &mut [u64],
-    places: &mut [u16],
-) -> u64
-    requires { Treed keys.now filed.keys tests.now forks.now × Hinted (take filed.keys keys.now) hints.now × (filed.kinds ≤ kind_room) × (length masks.now ≡ kind_room) × (filed.keys < length gifts.now)
-        × Memo (take filed.keys keys.now) asked.old places.old }
-    ensures { (result ≡ given (take filed.keys keys.now) masks.now gifts.now joint filed.kinds)
-        × Memo (take filed.keys keys.now) asked.new places.new }
-{
-    let n = filed.keys;
-    let kinds = filed.kinds;
-    let mut x: u64 = 0;
-    let mut k: usize = 0;
-    while k < kinds {
-        let part = masks[k] & joint;
-        let at = recall(keys, tests, forks, hints, n, part, k, asked, places);
-        x = x | gifts[at];
-        k += 1;
-    }
-    x
 }

@@ -1,0 +1,6 @@
+-- `keys::Keys::file` meets its contract: nothing is filed yet.
+use Rattle.keys.proofs.Homing.{filing_start}
+use Rattle.keys.proofs.Keys.file.Goals as goal
+
+pub loop-c-init : goal.loop-c-init
+loop-c-init c = filing_start _ c.new.ensures.tests c.new.ensures.forks
