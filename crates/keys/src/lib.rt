@@ -9,8 +9,9 @@ ghost use Rattle.codes.specs.Table.{width};
 ghost use Rattle.keys.specs.Keys.{own_moves, kind_of, mask_of, upper_stirred, lower_stirred, key_of, key_room, kind_room, gift_room, hint_room, keys_in, Findable, Housed, Filing, alive, Gathered, Homes, given, Remembers};
 
 use facts::FactSet;
-use firing::{calm_at, with_member};
+use firing::{Slot, with_member};
 use lookup::Tree;
+use rules::Look;
 
 // How many rules may be filed: no more than a sheet has.
 pub const RULE_ROOM: usize = 512;
@@ -136,6 +137,7 @@ fn stir_lower(x: u64) -> u64
 }
 
 // The key of a set of moves: no other set has it, and keys differ in their low digits, so that few tests tell them apart.
+#[tactic(auto, unfolding(crate::specs::Keys::key_of))]
 fn key_of(d: u64) -> u64
     ensures { result ≡ key_of d }
 {
@@ -221,15 +223,16 @@ impl Keys {
     // ---- once a position
 
     // What the slots below `to` give whose facts and views hold, gathered by their homes.
-    pub fn gather(&self, code: &[u64], to: usize, facts: u64, views: u64, gifts: &mut [u64])
+    pub fn gather(&self, code: &[u64], to: usize, look: Look, gifts: &mut [u64])
         requires { Homes code.now to self.now × (length gifts.old ≡ gift_room) }
-        ensures { Gathered code.now self.now (alive code.now facts views to) gifts.new }
+        ensures { Gathered code.now self.now (alive code.now look.facts.bits look.views.bits to) gifts.new }
     {
         gifts[..=self.count].fill(0);
         for c in 0..to {
-            if calm_at(code, c, facts, views) {
+            let slot = Slot { code, c };
+            if slot.is_calm(look.facts.bits, look.views.bits) {
                 let home = usize::from(self.homes[c]);
-                gifts[home] = with_member(gifts[home], code[6 * c + 5]);
+                gifts[home] = with_member(gifts[home], slot.member());
             }
         }
     }

@@ -3,4 +3,4 @@ use Rattle.keys.specs.Keys.{alive, Gathered}
 use Rattle.keys.proofs.Keys.gather.Given as goal
 
 abbrev pub invariant-loop-c : goal.invariant-loop-c
-invariant-loop-c l = Gathered l.code l.self (alive l.code l.facts l.views l.c) l.gifts
+invariant-loop-c l = Gathered l.code l.self (alive l.code l.look.facts.bits l.look.views.bits l.c) l.gifts
