@@ -9,11 +9,11 @@ use Rattle.choices.specs.Moves.{members, total, decode, four}
 use Rattle.rules.specs.Rules.{next_facts}
 use Rattle.codes.specs.Codes.{joint_of}
 use Rattle.codes.specs.Table.{Compiled, Sized}
-use Rattle.lookup.specs.Tree.{Treed}
-use Rattle.keys.specs.Keys.{kind_room, Hinted, given}
-use Rattle.keys.specs.declared.Filed.{Filed}
+use Rattle.keys.specs.Keys.{kind_room, keys_in, Findable, given}
+use Rattle.keys.specs.declared.Keys.{Keys}
 use Rattle.position.specs.Position.{still, look_in, moves_of, offers, making, leads}
 use Rattle.offer.specs.declared.Offer.{Offer}
+use Rattle.offer.specs.declared.Study.{Study}
 
 -- The most roles that a sheet may have.
 abbrev pub role_limit : ℕ
@@ -34,14 +34,19 @@ pub record Coded (d : Sheet) (masks code ends : List ℕ) : Type 0 where
   pub compiled : Compiled d.rules masks code ends
   pub sized : Sized code ends
 
--- The tables in which successors are looked up serve every joint move of the position: what they have is what the NEXT rules give.
-pub record Serves (d : Sheet) (o : Offer) (keys tests forks hints : List ℕ) (filed : Filed) (masks gifts : List ℕ) : Type 0 where
-  pub tree : Treed keys filed.keys tests forks
-  pub hinted : Hinted (take filed.keys keys) hints
-  pub few : filed.kinds ≤ kind_room
-  pub masks_long : length masks ≡ kind_room
-  pub room : filed.keys < length gifts
-  pub next : (m : List ℕ) → given (take filed.keys keys) masks gifts (joint_of m) filed.kinds ≡ next_facts d.rules (making o.look m)
+-- What is found once a sheet is the sheet's.
+pub record Ready (t : Study) : Type 0 where
+  pub whole : Whole t.s.now t.y
+  pub studied : Studied (sheet_in t.s.now t.y) t.masks.now t.moves
+  pub coded : Coded (sheet_in t.s.now t.y) t.masks.now t.codes.now.code t.codes.now.ends
+
+-- The keys and the gifts serve every joint move of the position: what is looked up is what the NEXT rules give.
+pub record Serves (d : Sheet) (o : Offer) (k : Keys) (gifts : List ℕ) : Type 0 where
+  pub found : Findable k
+  pub few : k.kinds ≤ kind_room
+  pub masks_long : length k.masks ≡ kind_room
+  pub room : k.count < length gifts
+  pub next : (m : List ℕ) → given (keys_in k) k.masks gifts (joint_of m) k.kinds ≡ next_facts d.rules (making o.look m)
 
 -- What position x offers.
 unfoldable pub offer_of : Sheet → ℕ → Offer
