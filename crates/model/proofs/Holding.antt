@@ -1,12 +1,11 @@
 -- A table that holds a list: its length, its list, one entry more.
-use Prim.Native.Nat.{ℕ, ◌+◌, ◌≤◌, ◌<◌}
+use Prim.Native.Nat.{ℕ, ◌+◌, ◌<◌}
 use mathlib.Core.Path.{◌≡◌, sym, ap, ◌∙◌, subst}
-use mathlib.Core.List.{List, [], ◌∷◌, ◌++◌, append_assoc, append-nil}
-use native.Mathlib.Nat.{add-zero}
+use mathlib.Core.List.{List, [], ◌∷◌, ◌++◌, append_assoc}
 use native.Mathlib.Numerals.{add-one}
 use native.Mathlib.Omega.{arith}
 use lib.ListN.{length, get_or, take, set, length-append}
-use lib.Seq.{take_all, take-suc}
+use lib.Seq.{take-suc}
 use Rattle.atl.specs.Bounded.{tabulate}
 use Rattle.atl.proofs.Bounded.{length_tabulate, get_d_tabulate}
 use Rattle.tables.proofs.Pad.{length_pad, take_pad, get_or_pad, set_pad}
@@ -37,23 +36,16 @@ module _ {size : ℕ} {table : List ℕ} {n : ℕ} {l : List ℕ} (h : Holds siz
   pub holds_counted : {q : ℕ} → q ≡ n → Holds size table q l
   holds_counted e = subst (λ (k : ℕ). Holds size table k l) (sym e) h
 
--- a row of m entries is stored behind l, of which the first r are there
-module _ {size : ℕ} (m : ℕ) (f : ℕ → ℕ) {table : List ℕ} {n : ℕ} where
-  pub row_none : Clean size table n → Holds size table (n + 0) (take n table ++ take 0 (tabulate m f))
-  row_none h = rw (add-zero n, append-nil (take n table)) h
-
-  module _ (l : List ℕ) {r : ℕ} (h : Holds size table n (l ++ take r (tabulate m f))) where
-    pub row_more : {q x : ℕ} → r < m → x ≡ f r → n < size → q ≡ n + 1 → Holds size (set table n x) q (l ++ take (r + 1) (tabulate m f))
-    row_more {q} {x} b e room c =
-        let row = tabulate m f in
-        let last : take (r + 1) (tabulate m f) ≡ take r (tabulate m f) ++ (x ∷ []) =
-        ap (λ (k : ℕ). take k row) (add-one r)
-        ∙ take-suc row r 0 (omega (arith, length_tabulate m f))
-        ∙ ap (λ (y : ℕ). take r row ++ (y ∷ [])) (get_d_tabulate m f 0 r b ∙ sym e) in
-        holds_counted
-        (subst (λ (k : List ℕ). Holds size (set table n x) (n + 1) k)
-        (append_assoc l (take r row) (x ∷ []) ∙ ap (λ (k : List ℕ). l ++ k) (sym last))
-        (holds_more h x room)) c
-
-    pub row_all : {q : ℕ} → m ≤ r → q ≡ n → Holds size table q (l ++ tabulate m f)
-    row_all b c = holds_counted (subst (λ (k : List ℕ). Holds size table n (l ++ k)) (take_all r (tabulate m f) (omega (arith, length_tabulate m f))) h) c
+-- a row of m entries is stored behind l, of which the first r are there: one more
+pub row_more : {size : ℕ} (m : ℕ) (f : ℕ → ℕ) {table : List ℕ} {n : ℕ} (l : List ℕ) {r : ℕ} → Holds size table n (l ++ take r (tabulate m f)) → {q x : ℕ} → r < m → x ≡ f r → n < size → q ≡ n + 1
+    → Holds size (set table n x) q (l ++ take (r + 1) (tabulate m f))
+row_more {size} m f {table} {n} l {r} h {q} {x} b e room c =
+    let row = tabulate m f in
+    let last : take (r + 1) (tabulate m f) ≡ take r (tabulate m f) ++ (x ∷ []) =
+    ap (λ (k : ℕ). take k row) (add-one r)
+    ∙ take-suc row r 0 (omega (arith, length_tabulate m f))
+    ∙ ap (λ (y : ℕ). take r row ++ (y ∷ [])) (get_d_tabulate m f 0 r b ∙ sym e) in
+    holds_counted
+    (subst (λ (k : List ℕ). Holds size (set table n x) (n + 1) k)
+    (append_assoc l (take r row) (x ∷ []) ∙ ap (λ (k : List ℕ). l ++ k) (sym last))
+    (holds_more h x room)) c

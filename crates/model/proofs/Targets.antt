@@ -10,33 +10,29 @@ use lib.Seq.{take_all}
 use Rattle.atl.specs.Bounded.{tabulate}
 use Rattle.atl.proofs.Bounded.{length_tabulate, get_d_tabulate}
 use Rattle.lookup.proofs.Place.{place_le}
-use Rattle.lookup.specs.Tree.{Treed}
 use Rattle.meaning.specs.Lists.{place}
 use Rattle.meaning.specs.Filling.{grown, add}
 use Rattle.meaning.proofs.Filling.{add_append, add_take, add_more, numbers_take}
-use Rattle.model.specs.declared.Slot.{Slot}
-use Rattle.model.specs.declared.Slot.TheVariants.{At, Full}
-use Rattle.model.specs.declared.Listing.TheVariants.{Done}
+use Rattle.model.specs.declared.growing.Growing.{Growing}
 use Rattle.model.specs.Tables.{Holds, numbers}
-use Rattle.model.specs.Answers.{Entered, Listed}
-use Rattle.model.proofs.Holding.{holds_take, holds_more, holds_counted}
+use Rattle.model.specs.Growing.{Numbered}
+use Rattle.model.proofs.Holding.{holds_take, holds_more}
 
--- the first j targets are listed
-pub record Going (limit joints : ℕ) (l z ts : List ℕ) (j : ℕ) (states tests forks : List ℕ) (n : ℕ) (successors : List ℕ) (at : ℕ) : Type 0 where
-  pub states_hold : Holds limit states n (add l (take j ts))
-  pub successors_hold : Holds joints successors at (z ++ numbers (add l (take j ts)) (take j ts))
-  pub treed : Treed states n tests forks
+-- the first j of the targets ts are listed, where the tables held the states l and the successors z, of `at` joint moves
+pub record Going (limit joints : ℕ) (l z : List ℕ) (at : ℕ) (ts : List ℕ) (j : ℕ) (g : Growing) : Type 0 where
+  pub numbered : Numbered limit (add l (take j ts)) g
+  pub successors_hold : Holds joints g.successors.now g.listed (z ++ numbers (add l (take j ts)) (take j ts))
+  pub listed : g.listed ≡ at + j
 
-module _ {limit joints : ℕ} {l z : List ℕ} where
-  pub going_none : {states tests forks successors : List ℕ} {n at : ℕ} (ts : List ℕ) → Holds limit states n l → Treed states n tests forks → Holds joints successors at z
-      → Going limit joints l z ts 0 states tests forks n successors (at + 0)
-  going_none {n = n} {at} ts h c g = record {
-    states_hold = h;
-    successors_hold = rw (add-zero at, append-nil z) g;
-    treed = c;
+module _ {limit joints : ℕ} {l z : List ℕ} {at : ℕ} where
+  pub going_none : {g : Growing} (ts : List ℕ) → Numbered limit l g → Holds joints g.successors.now g.listed z → g.listed ≡ at → Going limit joints l z at ts 0 g
+  going_none ts n h e = record {
+    numbered = n;
+    successors_hold = rw (append-nil z) h;
+    listed = rw (add-zero at) e;
   }
 
-  module _ (m : ℕ) (f : ℕ → ℕ) {j t : ℕ} {states tests forks successors : List ℕ} {n at : ℕ} (g : Going limit joints l z (tabulate m f) j states tests forks n successors at) (is : t ≡ f j) (b : j < m) where
+  module _ (m : ℕ) (f : ℕ → ℕ) {j t : ℕ} {g : Growing} (going : Going limit joints l z at (tabulate m f) j g) (is : t ≡ f j) (b : j < m) where
     abbrev ts : List ℕ
     ts = tabulate m f
 
@@ -57,36 +53,37 @@ module _ {limit joints : ℕ} {l z : List ℕ} where
         (ap (λ (x : ℕ). numbers (add l (take j ts)) (take j ts) ++ (place x (add l (take j ts)) ∷ [])) one
         ∙ sym (ap (λ (k : ℕ). numbers (add l (take k ts)) (take k ts)) (add-one j) ∙ numbers_take l ts j inside))
 
-    pub going_fits : (r : Slot) (i more : ℕ) (states' tests' forks' : List ℕ) → r ≡ At i more → Entered limit (take n states) t r states' tests' forks' → i ≤ limit
-    going_fits r i more states' tests' forks' e w =
-        let q : Entered limit (take n states) t (At i more) states' tests' forks' = subst (λ (x : Slot). Entered limit (take n states) t x states' tests' forks') e w in
-        omega (arith, q.0, place_le t (take n states), ap length (holds_take g.states_hold), g.states_hold.count, g.states_hold.room)
+    -- the list that the code enters t into
+    here : take g.found g.states.now ≡ add l (take j (tabulate m f))
+    here = holds_take going.numbered.holds
 
-    pub going_more : (r : Slot) (i more : ℕ) (states' tests' forks' : List ℕ) → r ≡ At i more → Entered limit (take n states) t r states' tests' forks' → at < joints → (q : ℕ) → q ≡ at + 1
-        → Going limit joints l z (tabulate m f) (j + 1) states' tests' forks' more (set successors at i) q
-    going_more r i more states' tests' forks' e w room c c_is =
-        let q : Entered limit (add l (take j (tabulate m f))) t (At i more) states' tests' forks' =
-        subst (λ (k : List ℕ). Entered limit k t (At i more) states' tests' forks') (holds_take g.states_hold) (subst (λ (x : Slot). Entered limit (take n states) t x states' tests' forks') e w) in
-        record {
-          states_hold = subst (λ (k : List ℕ). Holds limit states' more k) grows q.1;
-          successors_hold =
-              holds_counted
-              (subst (λ (k : List ℕ). Holds joints (set successors at i) (at + 1) k)
-              (ap (λ (x : ℕ). (z ++ numbers (add l (take j ts)) (take j ts)) ++ (x ∷ [])) q.0 ∙ stored)
-              (holds_more g.successors_hold i room)) c_is;
-          treed = q.2;
-        }
+    -- its number fits
+    pub going_fits : {i : ℕ} → i ≡ place t (take g.found g.states.now) → i ≤ limit
+    going_fits e = omega (arith, place_le t (take g.found g.states.now), ap length here, going.numbered.holds.count, going.numbered.holds.room)
 
-    pub going_over : (r : Slot) (states' tests' forks' : List ℕ) → r ≡ Full → Entered limit (take n states) t r states' tests' forks' → limit < length (add l (tabulate m f))
-    going_over r states' tests' forks' e w =
-        let q : limit < length (grown (add l (take j (tabulate m f))) t) =
-        subst (λ (k : List ℕ). Entered limit k t Full states' tests' forks') (holds_take g.states_hold) (subst (λ (x : Slot). Entered limit (take n states) t x states' tests' forks') e w) in
+    -- one more is listed
+    pub going_more : {i : ℕ} {h : Growing} → (i ≡ place t (take g.found g.states.now)) × Numbered limit (grown (take g.found g.states.now) t) h → (h.successors ≡ g.successors) × (h.listed ≡ g.listed) → at + j < joints
+        → Numbered limit (add l (take (j + 1) (tabulate m f))) h
+        × Holds joints (set h.successors.now h.listed i) (h.listed + 1) (z ++ numbers (add l (take (j + 1) (tabulate m f))) (take (j + 1) (tabulate m f)))
+        × (h.listed + 1 ≡ at + (j + 1))
+    going_more {i} {h} w same room =
+        let before : Holds joints h.successors.now h.listed (z ++ numbers (add l (take j (tabulate m f))) (take j (tabulate m f))) =
+        rw (same.0, same.1) going.successors_hold in (
+          subst (λ (k : List ℕ). Numbered limit k h) (ap (λ (k : List ℕ). grown k t) here ∙ grows) w.1,
+          subst (λ (k : List ℕ). Holds joints (set h.successors.now h.listed i) (h.listed + 1) k)
+              (ap (λ (x : ℕ). (z ++ numbers (add l (take j ts)) (take j ts)) ++ (x ∷ [])) (w.0 ∙ ap (place t) here) ∙ stored)
+              (holds_more before i (omega (arith, same.1, going.listed))),
+          omega (arith, same.1, going.listed),
+        )
+
+    pub going_over : limit < length (grown (take g.found g.states.now) t) → limit < length (add l (tabulate m f))
+    going_over w =
         let (u, v) = add_more (add l (take (j + 1) ts)) (drop (j + 1) ts) in
         let all = ap (add l) (sym (take-append-drop (j + 1) ts)) ∙ add_append l (take (j + 1) ts) (drop (j + 1) ts) ∙ v in
-        omega (arith, q, ap length grows, ap length all, length-append (add l (take (j + 1) ts)) u)
+        omega (arith, w, ap (λ (k : List ℕ). length (grown k t)) here, ap length grows, ap length all, length-append (add l (take (j + 1) ts)) u)
 
-  pub going_all : (m : ℕ) (f : ℕ → ℕ) {j : ℕ} {states tests forks successors : List ℕ} {n at : ℕ} → Going limit joints l z (tabulate m f) j states tests forks n successors at → m ≤ j → (q : ℕ) → q ≡ at
-      → Listed limit joints l z (tabulate m f) (Done n) states tests forks successors q
-  going_all m f {j} {states} {tests} {forks} {successors} {n} {at} g b q e =
+  pub going_all : (m : ℕ) (f : ℕ → ℕ) {j : ℕ} {g : Growing} → Going limit joints l z at (tabulate m f) j g → m ≤ j
+      → Numbered limit (add l (tabulate m f)) g × Holds joints g.successors.now g.listed (z ++ numbers (add l (tabulate m f)) (tabulate m f))
+  going_all m f {j} {g} h b =
       let whole : take j (tabulate m f) ≡ tabulate m f = take_all j (tabulate m f) (omega (arith, length_tabulate m f)) in
-      rw e (rw whole at g.states_hold, rw whole at g.successors_hold, g.treed)
+      (rw whole at h.numbered, rw whole at h.successors_hold)

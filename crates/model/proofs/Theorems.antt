@@ -24,7 +24,7 @@ use Rattle.offer.specs.Offer.{role_limit}
 use Rattle.model.specs.declared.Refusal.{Refusal}
 use Rattle.model.specs.declared.Refusal.TheVariants.{NoChoice, ManyMoves, ManyStates}
 use Rattle.model.specs.declared.Built.{Built}
-use Rattle.model.specs.declared.Built.TheVariants.{Accepted, Refused}
+use Rattle.std.proofs.Common.{Result, Ok, Err}
 use Rattle.model.specs.Counts.{count_of, row_of, counts}
 use Rattle.model.specs.Answers.{number_of, place_of, Accepts, Builds}
 
@@ -134,20 +134,21 @@ same_refusal (ManyStates k) (ManyMoves i) e p = absurd (omega (arith, e))
 
 module _ (R : Rules) (seen : ℕ → ℕ) (limit joints : ℕ) where
   -- An accepted model is accepted, and a refusal is given, exactly where the meaning says so.
-  pub accepted_exactly : (r : Built) (st sa su co vi : List ℕ) → Builds R seen limit joints r st sa su co vi → (l : List ℕ) → IsModel R limit joints l → r ≡ Accepted (length l) (total R l)
-  accepted_exactly (Accepted n m) st sa su co vi b l is =
+  pub accepted_exactly : (r : Result Built Refusal) (st sa su co vi : List ℕ) → Builds R seen limit joints r st sa su co vi → (l : List ℕ) → IsModel R limit joints l
+      → r ≡ Ok (record { states = length l; moves = total R l })
+  accepted_exactly (Ok n) st sa su co vi b l is =
       let same = model_unique R limit joints b.positions l b.is_model is in
-      ap₂ Accepted (b.count ∙ ap length same) (b.moves ∙ ap (total R) same)
-  accepted_exactly (Refused f) st sa su co vi b l is = absurd (model_not_refused R limit joints l (number_of f) (place_of f) is b.0)
+      ap₂ (λ (n m : ℕ). Ok (record { states = n; moves = m })) (b.count ∙ ap length same) (b.moves ∙ ap (total R) same)
+  accepted_exactly (Err f) st sa su co vi b l is = absurd (model_not_refused R limit joints l (number_of f) (place_of f) is b.0)
 
-  pub refused_exactly : (r : Built) (st sa su co vi : List ℕ) → Builds R seen limit joints r st sa su co vi → (f : Refusal) → IsRefusal R limit joints (number_of f) (place_of f) → r ≡ Refused f
-  refused_exactly (Accepted n m) st sa su co vi b f is = absurd (model_not_refused R limit joints b.positions (number_of f) (place_of f) b.is_model is)
-  refused_exactly (Refused g) st sa su co vi b f is =
+  pub refused_exactly : (r : Result Built Refusal) (st sa su co vi : List ℕ) → Builds R seen limit joints r st sa su co vi → (f : Refusal) → IsRefusal R limit joints (number_of f) (place_of f) → r ≡ Err f
+  refused_exactly (Ok n) st sa su co vi b f is = absurd (model_not_refused R limit joints b.positions (number_of f) (place_of f) b.is_model is)
+  refused_exactly (Err g) st sa su co vi b f is =
       let (e, p) = refusal_unique R limit joints (number_of g) (place_of g) (number_of f) (place_of f) b.0 is in
-      ap Refused (same_refusal g f e p)
+      ap Err (same_refusal g f e p)
 
   -- The answer and the five tables.
-  pub record Same (r r' : Built) (st st' sa sa' su su' co co' vi vi' : List ℕ) : Type 0 where
+  pub record Same (r r' : Result Built Refusal) (st st' sa sa' su su' co co' vi vi' : List ℕ) : Type 0 where
     pub answer : r ≡ r'
     pub states_same : st ≡ st'
     pub starts_same : sa ≡ sa'
@@ -156,27 +157,27 @@ module _ (R : Rules) (seen : ℕ → ℕ) (limit joints : ℕ) where
     pub views_same : vi ≡ vi'
 
   -- The contract determines the answer and every entry of the five tables.
-  pub built_unique : (r r' : Built) (st st' sa sa' su su' co co' vi vi' : List ℕ) → Builds R seen limit joints r st sa su co vi → Builds R seen limit joints r' st' sa' su' co' vi'
+  pub built_unique : (r r' : Result Built Refusal) (st st' sa sa' su su' co co' vi vi' : List ℕ) → Builds R seen limit joints r st sa su co vi → Builds R seen limit joints r' st' sa' su' co' vi'
       → Same r r' st st' sa sa' su su' co co' vi vi'
-  built_unique (Accepted n m) (Accepted n' m') st st' sa sa' su su' co co' vi vi' a b =
+  built_unique (Ok n) (Ok n') st st' sa sa' su su' co co' vi vi' a b =
       let same = model_unique R limit joints a.positions b.positions a.is_model b.is_model in
       record {
-        answer = ap₂ Accepted (a.count ∙ ap length same ∙ sym b.count) (a.moves ∙ ap (total R) same ∙ sym b.moves);
+        answer = ap₂ (λ (n m : ℕ). Ok (record { states = n; moves = m })) (a.count ∙ ap length same ∙ sym b.count) (a.moves ∙ ap (total R) same ∙ sym b.moves);
         states_same = a.states_are ∙ ap (pad limit) same ∙ sym b.states_are;
         starts_same = a.starts_are ∙ ap (λ (k : List ℕ). pad (limit + 1) (starts R k)) same ∙ sym b.starts_are;
         successors_same = a.successors_are ∙ ap (λ (k : List ℕ). pad joints (successors R k)) same ∙ sym b.successors_are;
         counts_same = a.counts_are ∙ ap (λ (k : List ℕ). pad (role_limit * limit) (counts R k)) same ∙ sym b.counts_are;
         views_same = a.views_are ∙ ap (λ (k : List ℕ). pad limit (map seen k)) same ∙ sym b.views_are;
       }
-  built_unique (Refused f) (Refused g) st st' sa sa' su su' co co' vi vi' a b =
+  built_unique (Err f) (Err g) st st' sa sa' su su' co co' vi vi' a b =
       let (e, p) = refusal_unique R limit joints (number_of f) (place_of f) (number_of g) (place_of g) a.0 b.0 in
       record {
-        answer = ap Refused (same_refusal f g e p);
+        answer = ap Err (same_refusal f g e p);
         states_same = a.1.states_zero ∙ sym b.1.states_zero;
         starts_same = a.1.starts_zero ∙ sym b.1.starts_zero;
         successors_same = a.1.successors_zero ∙ sym b.1.successors_zero;
         counts_same = a.1.counts_zero ∙ sym b.1.counts_zero;
         views_same = a.1.views_zero ∙ sym b.1.views_zero;
       }
-  built_unique (Accepted n m) (Refused g) st st' sa sa' su su' co co' vi vi' a b = absurd (model_not_refused R limit joints a.positions (number_of g) (place_of g) a.is_model b.0)
-  built_unique (Refused f) (Accepted n m) st st' sa sa' su su' co co' vi vi' a b = absurd (model_not_refused R limit joints b.positions (number_of f) (place_of f) b.is_model a.0)
+  built_unique (Ok n) (Err g) st st' sa sa' su su' co co' vi vi' a b = absurd (model_not_refused R limit joints a.positions (number_of g) (place_of g) a.is_model b.0)
+  built_unique (Err f) (Ok n) st st' sa sa' su su' co co' vi vi' a b = absurd (model_not_refused R limit joints b.positions (number_of f) (place_of f) b.is_model a.0)

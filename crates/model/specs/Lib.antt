@@ -3,3 +3,4 @@ pub mod Counts
 pub mod Views
 pub mod Tables
 pub mod Answers
+pub mod Growing

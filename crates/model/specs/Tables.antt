@@ -1,14 +1,8 @@
 -- What the lent tables hold while the model is built.
-use Rattle.std.specs.Prelude.{ℕ, ◌+◌, ◌*◌, ◌≤◌, ◌≡◌, List, [], ◌∷◌, map, length, take}
+use Rattle.std.specs.Prelude.{ℕ, ◌+◌, ◌*◌, ◌≤◌, ◌≡◌, List, [], map, length, take}
 use Rattle.tables.specs.Pad.{pad}
 use Rattle.meaning.specs.Lists.{place}
-use Rattle.meaning.specs.Rules.{Rules}
-use Rattle.meaning.specs.Model.{found}
-use Rattle.meaning.specs.Filling.{starts_to, successors_to}
-use Rattle.meaning.proofs.Outcome.{SoFar}
 use Rattle.offer.specs.Offer.{role_limit}
-use Rattle.model.specs.Counts.{counts_to}
-use Rattle.model.specs.Views.{views_to}
 
 -- A table of that size holds the list l, of n entries, and zeros behind it.
 pub record Holds (size : ℕ) (table : List ℕ) (n : ℕ) (l : List ℕ) : Type 0 where
@@ -32,14 +26,6 @@ pub record Sized (limit joints : ℕ) (states starts successors counts views : L
   pub counts_long : length counts ≡ role_limit * limit
   pub views_long : length views ≡ limit
 
--- The five tables hold the state x and zeros alone.
-pub record Fresh (limit joints x : ℕ) (states starts successors counts views : List ℕ) : Type 0 where
-  pub states_are : states ≡ pad limit (x ∷ [])
-  pub starts_zero : starts ≡ pad (limit + 1) []
-  pub successors_zero : successors ≡ pad joints []
-  pub counts_zero : counts ≡ pad (role_limit * limit) []
-  pub views_zero : views ≡ pad limit []
-
 -- Every entry of the five tables is zero.
 pub record Zeros (limit joints : ℕ) (states starts successors counts views : List ℕ) : Type 0 where
   pub states_zero : states ≡ pad limit []
@@ -47,12 +33,3 @@ pub record Zeros (limit joints : ℕ) (states starts successors counts views : L
   pub successors_zero : successors ≡ pad joints []
   pub counts_zero : counts ≡ pad (role_limit * limit) []
   pub views_zero : views ≡ pad limit []
-
--- The first k positions have been expanded, none of them was refused, and the tables hold what has been found; `seen` says the views of a position.
-pub record Stage (R : Rules) (seen : ℕ → ℕ) (limit joints k : ℕ) (states : List ℕ) (n : ℕ) (starts successors : List ℕ) (at : ℕ) (counts views : List ℕ) : Type 0 where
-  pub so_far : SoFar R limit joints k
-  pub states_hold : Holds limit states n (found R k)
-  pub starts_hold : Holds (limit + 1) starts (k + 1) (starts_to R k)
-  pub successors_hold : Holds joints successors at (successors_to R k)
-  pub counts_hold : Holds (role_limit * limit) counts (role_limit * k) (counts_to R k)
-  pub views_hold : Holds limit views k (views_to R seen k)
