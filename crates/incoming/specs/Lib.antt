@@ -2,3 +2,4 @@
 pub mod Index
 pub mod Owners
 pub mod Build
+pub mod Leads

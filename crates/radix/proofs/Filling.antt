@@ -1,13 +1,15 @@
 -- What the loops over the joint moves and the positions come to.
 use mathlib.Core.Path.{◌≡◌, refl, sym, ap, ap₂, ◌∙◌}
-use mathlib.Core.List.{List}
+use mathlib.Core.List.{List, ◌++◌}
 use Prim.Native.Nat.{ℕ, zero, suc, ◌+◌, ◌-◌, ◌*◌, ◌≤◌, ◌<◌}
-use native.Mathlib.Nat.{zero-add, le_refl, not-suc-le-zero}
-use native.Mathlib.Decide.{ℕ_discrete}
+use native.Mathlib.Nat.{add-zero, zero-add, le_refl, not-suc-le-zero}
+use native.Mathlib.Decide.{ℕ_discrete, dec_lt}
 use native.Mathlib.Numerals.{add-one}
 use native.Mathlib.Omega.{arith}
-use lib.ListN.{get_or, set, length, length-set}
+use lib.ListN.{get_or, set, length, length-set, take, drop, length-take, length-drop, length-append, replicate, length-replicate}
 use lib.Seq.{get_or-set_same, get_or-set_other, ext_get_or}
+use borrow.Rule.Slice.PartMut.{put_mid}
+use Rattle.std.proofs.lemmas.List.{get_or-replicate, get_or-take, get_or-drop, get_or_append_left, get_or-append_right}
 use Rattle.atl.specs.Bounded.{tabulate}
 use Rattle.atl.proofs.Bounded.{length_tabulate, get_d_tabulate}
 use Rattle.meaning.specs.Radix.{product}
@@ -60,6 +62,34 @@ ranged_cong f g first l zero e = refl
 ranged_cong f g first l (suc k) e =
     ap₂ (λ (m : List ℕ) (x : ℕ). set m (first + k) x) (ranged_cong f g first l k (λ i h. e i (omega arith))) (e k (omega arith))
 
+-- what was written to a part of a table, as entries filled
+module _ (a k : ℕ) (l ys : List ℕ) (d : length ys ≡ k) (h : a + k ≤ length l) where
+  rest : List ℕ
+  rest = drop k (drop a l)
+
+  put_length : length (put_mid a k l ys) ≡ length l
+  put_length = grind (arith, length-append, length-take, length-drop)
+
+  put_at : (i : ℕ) → Dec (i < a) → Dec (i < a + k) → get_or (put_mid a k l ys) i 0 ≡ get_or (ranged (λ j. get_or ys j 0) a l k) i 0
+  unfolding rest
+  put_at i (yes b) _ =
+      get_or_append_left (take a l) (ys ++ rest) 0 i (omega (arith, length-take a l)) ∙ get_or-take a l i 0 b
+      ∙ sym (ranged_before (λ j. get_or ys j 0) a l k i b)
+  put_at i (no b) (yes e) =
+      let z : a + (i - a) ≡ i = omega arith in
+      get_or-append_right (take a l) (ys ++ rest) a i 0 (omega (arith, length-take a l)) (omega arith)
+      ∙ get_or_append_left ys rest 0 (i - a) (omega arith)
+      ∙ sym (rw z at (ranged_at (λ j. get_or ys j 0) a l k (i - a) h (omega arith)))
+  put_at i (no b) (no e) =
+      let z : a + (k + (i - a - k)) ≡ i = omega arith in
+      get_or-append_right (take a l) (ys ++ rest) a i 0 (omega (arith, length-take a l)) (omega arith)
+      ∙ get_or-append_right ys rest k (i - a) 0 d (omega arith)
+      ∙ get_or-drop k (drop a l) (i - a - k) 0 ∙ get_or-drop a l (k + (i - a - k)) 0 ∙ ap (λ (x : ℕ). get_or l x 0) z
+      ∙ sym (ranged_after (λ j. get_or ys j 0) a l k i 0 (omega arith))
+
+  pub put_ranged : put_mid a k l ys ≡ ranged (λ j. get_or ys j 0) a l k
+  put_ranged = ext_get_or 0 _ _ (put_length ∙ sym (length_ranged (λ j. get_or ys j 0) a l k)) (λ i o. put_at i (dec_lt i a) (dec_lt i (a + k)))
+
 -- a table filled from the front
 module _ (f : ℕ → ℕ) (l : List ℕ) where
   pub filled_none : l ≡ filled f l 0
@@ -85,6 +115,27 @@ module _ (f : ℕ → ℕ) (l : List ℕ) where
       ∙ ext_get_or 0 _ _ (length_ranged f 0 l n ∙ d ∙ sym (length_tabulate n _)) (λ i o.
       let p : i < n = rw (length_ranged f 0 l n, d) at o in
       filled_at n i (omega arith) p ∙ sym (get_d_tabulate n f 0 i p))
+
+-- every entry of a list of one number is that number
+pub replicated : (k v : ℕ) (l : List ℕ) → l ≡ replicate k v → (j : ℕ) → j < length l → get_or l j 0 ≡ v
+replicated k v l e j h = ap (λ (x : List ℕ). get_or x j 0) e ∙ get_or-replicate k j v 0 (omega (arith, ap length e, length-replicate k v))
+
+-- a table filled from the front, in parts
+module _ (f : ℕ → ℕ) (l : List ℕ) (a : ℕ) where
+  filled_further : (k : ℕ) → ranged (λ j. f (a + j)) a (filled f l a) k ≡ filled f l (a + k)
+  unfolding ranged
+  filled_further zero = rw (add-zero a) refl
+  filled_further (suc k) =
+      let z : a + suc k ≡ suc (a + k) = omega arith in
+      rw z (ap₂ (λ (m : List ℕ) (x : ℕ). set m x (f (a + k))) (filled_further k) (sym (zero-add (a + k))))
+
+  pub filled_part : (b : ℕ) (m ys : List ℕ) → m ≡ filled f l a → a ≤ b → b ≤ length l → length ys ≡ b - a
+      → ((j : ℕ) → j < b - a → get_or ys j 0 ≡ f (a + j)) → put_mid a (b - a) m ys ≡ filled f l b
+  filled_part b m ys e h g d y =
+      let z : a + (b - a) ≡ b = omega arith in
+      put_ranged a (b - a) m ys d (omega (arith, filled_length f l a m e))
+      ∙ ranged_cong (λ j. get_or ys j 0) (λ j. f (a + j)) a m (b - a) y
+      ∙ ap (λ (x : List ℕ). ranged (λ j. f (a + j)) a x (b - a)) e ∙ filled_further (b - a) ∙ ap (filled f l) z
 
 -- all positions
 module _ (starts counts : List ℕ) (mask : ℕ) (l : List ℕ) where

@@ -1,6 +1,7 @@
 -- The class of each joint move of each position for a coalition, in a table.
 use Rattle.std.specs.Prelude.{◌≡◌, Bool, cond, List, [], ◌∷◌, ℕ, zero, suc, ◌+◌, ◌-◌, ◌*◌, ◌/◌, ◌%◌, ◌≤◌, ◌<◌, get_or, set, length}
 use Rattle.facts.specs.Bits.{has}
+use Rattle.std.specs.Coded.{le_prop}
 use Rattle.meaning.specs.Radix.{product}
 
 -- the lowest joint move that gives the roles of C the same choices: the other roles make their first
@@ -43,6 +44,13 @@ pub record Starts (n : ℕ) (starts : List ℕ) (room : ℕ) : Type 0 where
   pub long : n + 1 ≤ length starts
   pub up : (i : ℕ) → i < n → get_or starts i 0 < get_or starts (i + 1) 0
   pub within : (i : ℕ) → i < n → get_or starts (i + 1) 0 ≤ room
+
+pub Starts-prop : (n : ℕ) (starts : List ℕ) (room : ℕ) → IsProp (Starts n starts room)
+Starts-prop n starts room a b = λ k. record {
+  long = le_prop a.long b.long k;
+  up = λ i h. le_prop (a.up i h) (b.up i h) k;
+  within = λ i h. le_prop (a.within i h) (b.within i h) k;
+}
 
 -- Four roles' counts of choices a position, which make its joint moves.
 pub record Counted (n : ℕ) (starts counts : List ℕ) : Type 0 where

@@ -7,6 +7,26 @@ ghost use Rattle.facts.specs.Bits.{has};
 ghost use Rattle.meaning.specs.Radix.{product};
 ghost use Rattle.radix.specs.Classes.{row, class_of, ranged, repeated, classed, Starts, Counted, Repeats};
 
+use std::ops::Range;
+
+// Joint moves in tables: `starts` has the place of the first one of each of `n` positions, then their number, and `successors` where each of them leads.
+#[derive(Clone, Copy)]
+pub struct Joints<'a> {
+    pub n: usize,
+    pub starts: &'a [u16],
+    pub successors: &'a [u16],
+}
+
+impl<'a> Joints<'a> {
+    // The places of the joint moves of position `i`.
+    pub fn places(self, i: usize) -> Range<usize>
+        requires { i + 1 < length self.starts.now }
+        ensures { (result.start ≡ get_or self.entry.starts.now i 0) × (result.end ≡ get_or self.entry.starts.now (i + 1) 0) }
+    {
+        usize::from(self.starts[i])..usize::from(self.starts[i + 1])
+    }
+}
+
 pub fn wide(x: u16) -> usize
     ensures { result ≡ x }
 {
