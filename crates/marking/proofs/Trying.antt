@@ -1,36 +1,27 @@
 -- What may be passed through, what a position has before the first round, and the choice of a position.
-use mathlib.Core.Path.{◌≡◌, refl, sym, ◌∙◌}
-use mathlib.Core.Bool.{Bool, true, false, cond}
+use mathlib.Core.Path.{◌≡◌, refl, sym, ap, ◌∙◌}
+use mathlib.Core.Bool.{Bool, true, false, not, cond, beq}
 use mathlib.Core.List.{List}
 use Prim.Native.Nat.{ℕ, zero, suc, pred, ◌-◌, ◌≤◌, ◌<◌}
 use native.Mathlib.Omega.{arith}
 use lib.ListN.{get_or, length}
 use borrow.Author.Tests.{lt-ltb}
-use Rattle.facts.specs.Bits.{has}
 use Rattle.atl.specs.Bounded.{lowest}
-use Rattle.atl.specs.Game.{Game}
+use Rattle.atl.specs.Game.{Game, States}
 use Rattle.atl.specs.Marking.{unset, secures, counted, choice}
 use Rattle.marking.specs.Table.{side}
 use Rattle.marking.proofs.Position.{get_d_default}
-use Rattle.marking.specs.Rule.{bits, permits}
 
--- where the bound holds, a position may be passed through exactly where node k marks it
-pub permits_bound : (bound : Bool) (marks : List ℕ) (k i : ℕ) (x : Bool) → bound ≡ true → x ≡ has (get_or marks i 0) k → x ≡ permits bound marks k i
-permits_bound bound marks k i x e d = rw e d
+-- a position is on the side that is wanted where the test of it says so
+pub side_is : (w : States) (i : ℕ) (x : Bool) → x ≡ w i → (want : Bool) → beq x want ≡ side want w i
+side_is w i true e true = e
+side_is w i false e true = e
+side_is w i true e false = ap not e
+side_is w i false e false = ap not e
 
--- what a position has before the first round
-module _ (marks : List ℕ) (k i : ℕ) (x : Bool) (e : x ≡ has (get_or marks i 0) k) where
-  pub fresh_in : (want : Bool) → x ≡ true → want ≡ true → 0 ≡ cond (side want (bits marks k) i) 0 unset
-  fresh_in want q w = rw (w, sym e ∙ q)
-
-  pub fresh_lost : (want : Bool) → x ≡ true → want ≡ false → unset ≡ cond (side want (bits marks k) i) 0 unset
-  fresh_lost want q w = rw (w, sym e ∙ q)
-
-  pub fresh_out : (want : Bool) → x ≡ false → want ≡ true → unset ≡ cond (side want (bits marks k) i) 0 unset
-  fresh_out want q w = rw (w, sym e ∙ q)
-
-  pub fresh_kept : (want : Bool) → x ≡ false → want ≡ false → 0 ≡ cond (side want (bits marks k) i) 0 unset
-  fresh_kept want q w = rw (w, sym e ∙ q)
+-- what it has before the first round
+pub fresh_is : (w : States) (i : ℕ) (x want b : Bool) → x ≡ w i → beq x want ≡ b → cond b 0 unset ≡ cond (side want w i) 0 unset
+fresh_is w i x want b e q = ap (λ (y : Bool). cond y 0 unset) (sym q ∙ side_is w i x e want)
 
 -- the choice of a position
 module _ (G : Game) (l : List ℕ) (i : ℕ) (h : i < length l) where

@@ -1,10 +1,8 @@
 -- The lowest choice of a position, by one flag a class.
-use Rattle.std.specs.Prelude.{Bool, true, false, cond, List, ℕ, zero, suc, ◌+◌, eqb, ltb, get_or, set}
+use Rattle.std.specs.Prelude.{Bool, cond, List, ℕ, zero, suc, ◌+◌, eqb, ltb, get_or, set, Option, Some, None}
 use Rattle.atl.specs.Game.{States}
-use Rattle.atl.specs.Bounded.{some<, lowest}
+use Rattle.atl.specs.Bounded.{lowest}
 use Rattle.radix.specs.Classes.{filled}
-use Rattle.marking.specs.declared.Found.{Found}
-use Rattle.marking.specs.declared.Found.TheVariants.{At, Nothing}
 
 -- the first k entries 0
 abbrev pub cleared : List ℕ → ℕ → List ℕ
@@ -23,22 +21,10 @@ strikes successors classes w first l (suc k) = strike (w (get_or successors (fir
 abbrev pub clean : List ℕ → List ℕ → ℕ → ℕ → Bool
 clean classes flags first j = eqb (get_or flags (get_or classes (first + j) 0) 0) 0
 
-abbrev pub pick : Bool → Found → Found → Found
-pick true a b = a
-pick false a b = b
-
 -- number j, where it is below n
-abbrev pub found_of : ℕ → ℕ → Found
-found_of n j = pick (ltb j n) (At j) Nothing
+abbrev pub found_of : ℕ → ℕ → Option ℕ
+found_of n j = cond (ltb j n) (Some j) None
 
 -- the lowest of n that passes, if any
-unfoldable pub first_of : ℕ → (ℕ → Bool) → Found
+unfoldable pub first_of : ℕ → (ℕ → Bool) → Option ℕ
 first_of n p = found_of n (lowest n p)
-
--- the lowest of `count` joint moves from place `first` on whose class is not struck out
-unfoldable pub first_clean : List ℕ → List ℕ → ℕ → ℕ → Found
-first_clean classes flags first count = first_of count (clean classes flags first)
-
--- among the first j there is one
-unfoldable pub passed : List ℕ → List ℕ → ℕ → ℕ → Bool
-passed classes flags first j = some< j (clean classes flags first)

@@ -2,3 +2,4 @@
 pub mod Table
 pub mod Flags
 pub mod Rule
+pub mod Board

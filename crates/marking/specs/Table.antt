@@ -1,7 +1,8 @@
 -- A game in tables, and what the tables must satisfy.
 use Rattle.std.specs.Prelude.{Bool, true, false, not, List, ℕ, ◌+◌, ◌≤◌, ◌<◌, eqb, get_or, length}
 use Rattle.atl.specs.Game.{Game, States}
-use Rattle.radix.specs.Classes.{moves_at, Starts}
+use Rattle.std.specs.Coded.{le_prop}
+use Rattle.radix.specs.Classes.{moves_at, Starts, Starts-prop}
 
 -- `starts` has the place of each position's first joint move, `successors` the position that each joint move leads to, and `classes` for each
 -- joint move the number of its class in its position, the same for those that agree.
@@ -26,9 +27,10 @@ pub record Tables (n : ℕ) (starts successors classes : List ℕ) : Type 0 wher
   pub landed : (i : ℕ) → i < n → (j : ℕ) → j < moves_at starts i → get_or successors (get_or starts i 0 + j) 0 < n
   pub low : (i : ℕ) → i < n → (j : ℕ) → j < moves_at starts i → get_or classes (get_or starts i 0 + j) 0 < moves_at starts i
 
--- The joint moves from place `first` on, `count` of them: in range, each leads into a table of `tabled` entries, and its class has one of `flagged` flags.
-pub record Block (first count : ℕ) (successors classes : List ℕ) (tabled flagged : ℕ) : Type 0 where
-  pub moved : first + count ≤ length successors
-  pub classed : first + count ≤ length classes
-  pub landed : (j : ℕ) → j < count → get_or successors (first + j) 0 < tabled
-  pub low : (j : ℕ) → j < count → get_or classes (first + j) 0 < flagged
+pub Tables-prop : (n : ℕ) (starts successors classes : List ℕ) → IsProp (Tables n starts successors classes)
+Tables-prop n starts successors classes a b = λ k. record {
+  placed = Starts-prop n starts (length successors) a.placed b.placed k;
+  classed = le_prop a.classed b.classed k;
+  landed = λ i h j g. le_prop (a.landed i h j g) (b.landed i h j g) k;
+  low = λ i h j g. le_prop (a.low i h j g) (b.low i h j g) k;
+}

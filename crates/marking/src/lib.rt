@@ -1,240 +1,144 @@
 // The marking of a game in tables: what a coalition can secure in one position, the counts before the first round, and the choices.
 #![tactic(auto)]
 
-ghost use Rattle.std.specs.Prelude.{◌≡◌, cond, ℕ, ◌+◌, ◌<◌, ◌≤◌, get_or, length};
-ghost use Rattle.facts.specs.Bits.{has};
+ghost use Rattle.std.specs.List.{All};
+ghost use Rattle.std.specs.Prelude.{◌≡◌, cond, eqb, position, ℕ, ◌+◌, ◌<◌, ◌≤◌, get_or, length, IfSome};
 ghost use Rattle.atl.specs.Bounded.{lowest, tabulate};
-ghost use Rattle.atl.specs.Marking.{secures, force, counted, unset, plan as plan_of, choice as choice_of};
+ghost use Rattle.atl.specs.Marking.{secures, force, unset, plan as plan_of, choice as choice_of};
 ghost use Rattle.radix.specs.Classes.{moves_at};
-ghost use Rattle.marking.specs.Table.{in_tables, side, Tables, Block};
-ghost use Rattle.marking.specs.Flags.{cleared, strike, strikes, first_clean, first_of};
-ghost use Rattle.marking.specs.Rule.{bits, permits};
+ghost use Rattle.marking.specs.Table.{side};
+ghost use Rattle.marking.specs.Flags.{first_of};
+ghost use Rattle.marking.specs.Board.{game_of, aimed, marked_by, passable, Tried, secured};
+
+pub mod game;
 
 use facts::FactSet;
-use radix::wide;
+pub use game::Board;
+use std::ops::Range;
 
+// The count and the choice of a position that has none.
+const UNSET: u16 = u16::MAX;
+
+// The positions of count at most `r` in the table; or, where `want` is false, the others.
 #[derive(Clone, Copy)]
-pub enum Found {
-    At(u16),
-    Nothing,
+pub struct Aim<'a> {
+    pub table: &'a [u16],
+    pub r: u16,
+    pub want: bool,
 }
 
-// Whether the count of position `i` is at most `r`; or is not, where `want` is false.
-pub fn within(table: &[u16], r: u16, want: bool, i: usize) -> bool
-    requires { i < length table.now }
-    ensures { result ≡ side want (counted table.now r) i }
-{
-    if table[i] <= r { want } else { !want }
-}
-
-// The first `count` flags cleared.
-pub fn clear(flags: &mut [u16], count: usize)
-    requires { count ≤ length flags.old }
-    ensures { flags.new ≡ cleared flags.old count }
-{
-    let mut k = 0;
-    while k < count {
-        flags[k] = 0;
-        k += 1;
+impl<'a> Aim<'a> {
+    // Is position `i` one of them?
+    pub fn holds(self, i: usize) -> bool
+        requires { i < length self.table.now }
+        ensures { result ≡ aimed self.entry i }
+    {
+        (self.table[i] <= self.r) == self.want
     }
 }
 
-// One joint move, of class `c`, to position `t`: the class is struck out unless `t` is on the side that is wanted.
-fn strike_one(table: &[u16], r: u16, want: bool, t: usize, c: usize, flags: &mut [u16])
-    requires { (t < length table.now) × (c < length flags.old) }
-    ensures { flags.new ≡ strike (side want (counted table.now r) t) flags.old c }
-{
-    if !within(table, r, want, t) {
-        flags[c] = 1;
+// The positions that node `k` marks.
+#[derive(Clone, Copy)]
+pub struct Marked<'a> {
+    pub marks: &'a [u64],
+    pub k: u8,
+}
+
+impl<'a> Marked<'a> {
+    // Is position `i` one of them?
+    pub fn holds(self, i: usize) -> bool
+        requires { i < length self.marks.now }
+        ensures { result ≡ marked_by self.entry i }
+    {
+        FactSet::of(self.marks[i]).has(self.k)
     }
 }
 
-// The same for `count` joint moves.
-fn strike_all(
-    successors: &[u16],
-    classes: &[u16],
-    table: &[u16],
-    r: u16,
-    want: bool,
-    first: usize,
-    count: usize,
-    flags: &mut [u16],
-)
-    requires { Block first count successors.now classes.now (length table.now) (length flags.old) }
-    ensures { flags.new ≡ strikes successors.now classes.now (side want (counted table.now r)) first flags.old count }
+// Whether position `i` may be passed through: all may, where no node says which.
+pub fn permitted(through: Option<Marked>, i: usize) -> bool
+    requires { IfSome through (λ m. i < length m.marks.now) }
+    ensures { result ≡ passable through.entry i }
 {
-    let mut k = 0;
-    while k < count {
-        let t = wide(successors[first + k]);
-        let c = wide(classes[first + k]);
-        strike_one(table, r, want, t, c, flags);
-        k += 1;
+    match through {
+        Some(node) => node.holds(i),
+        None => true,
+    }
+}
+
+// A flag for each class of position `i`: 1 where some joint move of the class leads to no position of `aim`.
+fn strike(board: Board, aim: Aim, i: usize, flags: &mut [u16])
+    requires { Tried board aim.table.now i flags.old }
+    ensures { flags.new ≡ secured board.entry (aimed aim.entry) i flags.old }
+{
+    let Range { start, end } = board.joints.places(i);
+    flags[..end - start].fill(0);
+    for p in start..end {
+        if !aim.holds(usize::from(board.joints.successors[p])) {
+            flags[usize::from(board.classes[p])] = 1;
+        }
     }
 }
 
 // The lowest joint move whose class is not struck out.
-fn lowest_clean(classes: &[u16], flags: &[u16], first: usize, count: usize) -> Found
-    requires { (first + count ≤ length classes.now) × (count ≤ 65535) × ((j : ℕ) → j < count → get_or classes.now (first + j) 0 < length flags.now) }
-    ensures { result ≡ first_clean classes.now flags.now first count }
+fn lowest_clean(classes: &[u16], flags: &[u16]) -> Option<usize>
+    requires { All (λ c. c < length flags.now) classes.now }
+    ensures { result ≡ position (λ c. eqb (get_or flags.now c 0) 0) classes.now }
 {
-    let mut j = 0;
-    while j < count {
-        let c = wide(classes[first + j]);
-        if flags[c] == 0 {
-            return Found::At(j as u16);
-        }
-        j += 1;
-    }
-    Found::Nothing
+    classes.iter().position(|&c| flags[usize::from(c)] == 0)
 }
 
-// The lowest choice in position `i` that secures the positions of count at most `r`, or those of a higher count.
-fn force_at(
-    n: usize,
-    starts: &[u16],
-    successors: &[u16],
-    classes: &[u16],
-    table: &[u16],
-    r: u16,
-    want: bool,
-    i: usize,
-    flags: &mut [u16],
-) -> Found
-    requires { Tables n starts.now successors.now classes.now × (n ≤ length table.now) × (length successors.now ≤ length flags.old) × (i < n) }
-    ensures { result ≡ first_of (moves_at starts.now i) (secures (in_tables n starts.now successors.now classes.now) (side want (counted table.now r)) i) }
+// The lowest choice in position `i` that secures the positions of `aim`.
+fn force_at(board: Board, aim: Aim, i: usize, flags: &mut [u16]) -> Option<usize>
+    requires { Tried board aim.table.now i flags.old }
+    ensures { result ≡ first_of (moves_at board.entry.joints.starts.now i) (secures (game_of board.entry) (aimed aim.entry) i) }
 {
-    let first = wide(starts[i]);
-    let last = wide(starts[i + 1]);
-    let count = last - first;
-    clear(flags, count);
-    strike_all(successors, classes, table, r, want, first, count, flags);
-    lowest_clean(classes, flags, first, count)
+    let Range { start, end } = board.joints.places(i);
+    strike(board, aim, i, flags);
+    lowest_clean(&board.classes[start..end], flags)
 }
 
-// Whether some choice in position `i` secures the positions of count at most `r`; or, where `want` is false, whether none secures the others.
-pub fn holds_at(
-    n: usize,
-    starts: &[u16],
-    successors: &[u16],
-    classes: &[u16],
-    table: &[u16],
-    r: u16,
-    want: bool,
-    i: usize,
-    flags: &mut [u16],
-) -> bool
-    requires { Tables n starts.now successors.now classes.now × (n ≤ length table.now) × (length successors.now ≤ length flags.old) × (i < n) }
-    ensures { result ≡ side want (force (in_tables n starts.now successors.now classes.now) (side want (counted table.now r))) i }
+// Whether some choice in position `i` secures the positions of `aim`; or, where these are the others, whether none secures them.
+pub fn holds_at(board: Board, aim: Aim, i: usize, flags: &mut [u16]) -> bool
+    requires { Tried board aim.table.now i flags.old }
+    ensures { result ≡ side aim.entry.want (force (game_of board.entry) (aimed aim.entry)) i }
 {
-    let f = force_at(n, starts, successors, classes, table, r, want, i, flags);
-    match f {
-        Found::At(_) => want,
-        Found::Nothing => !want,
+    force_at(board, aim, i, flags).is_some() == aim.want
+}
+
+// The table before the first round: count 0 for the positions that the node marks, or where not `want` for the others, and none for the rest.
+pub fn begin(start: Marked, want: bool, rounds: &mut [u16])
+    requires { length rounds.old ≤ length start.marks.now }
+    ensures { rounds.new ≡ tabulate (length rounds.old) (λ i. cond (side want (marked_by start.entry) i) 0 unset) }
+{
+    for (i, round) in rounds.iter_mut().enumerate() {
+        *round = if start.holds(i) == want { 0 } else { UNSET };
     }
 }
 
-// The lowest choice in position `i` that secures the positions of count at most `r`, or the number of joint moves where none does.
-fn lowest_at(
-    n: usize,
-    starts: &[u16],
-    successors: &[u16],
-    classes: &[u16],
-    table: &[u16],
-    r: u16,
-    i: usize,
-    flags: &mut [u16],
-) -> u16
-    requires { Tables n starts.now successors.now classes.now × (n ≤ length table.now) × (length successors.now ≤ length flags.old) × (i < n) }
-    ensures { result ≡ lowest (moves_at starts.now i) (secures (in_tables n starts.now successors.now classes.now) (counted table.now r) i) }
+// The choice of position `i`, which has none at count 0 and where there is no count: else the lowest that secures the positions of a lower count.
+fn choose(board: Board, rounds: &[u16], i: usize, flags: &mut [u16]) -> u16
+    requires { Tried board rounds.now i flags.old }
+    ensures { result ≡ choice_of (game_of board.entry) rounds.now i }
 {
-    let f = force_at(n, starts, successors, classes, table, r, true, i, flags);
-    match f {
-        Found::At(j) => j,
-        Found::Nothing => starts[i + 1] - starts[i],
+    let count = rounds[i];
+    if count == 0 || count == UNSET {
+        return UNSET;
     }
-}
-
-// Whether node `k` marks position `i`.
-pub fn bit(marks: &[u64], k: u8, i: usize) -> bool
-    requires { i < length marks.now }
-    ensures { result ≡ has (get_or marks.now i 0) k }
-{
-    FactSet::of(marks[i]).has(k)
-}
-
-// Whether position `i` may be passed through: all may, where not `bound`.
-pub fn permitted(bound: bool, marks: &[u64], k: u8, i: usize) -> bool
-    requires { i < length marks.now }
-    ensures { result ≡ permits bound marks.now k i }
-{
-    if bound { bit(marks, k, i) } else { true }
-}
-
-// What a position has before the first round: 0 on the side that is wanted, and 65,535 for none.
-fn fresh(marks: &[u64], k: u8, want: bool, i: usize) -> u16
-    requires { i < length marks.now }
-    ensures { result ≡ cond (side want (bits marks.now k) i) 0 unset }
-{
-    if bit(marks, k, i) {
-        if want { 0 } else { 65535 }
-    } else {
-        if want { 65535 } else { 0 }
-    }
-}
-
-// The table before the first round.
-pub fn begin(n: usize, marks: &[u64], k: u8, want: bool, rounds: &mut [u16])
-    requires { (length rounds.old ≡ n) × (n ≤ length marks.now) }
-    ensures { rounds.new ≡ tabulate n (λ i. cond (side want (bits marks.now k) i) 0 unset) }
-{
-    let mut i = 0;
-    while i < n {
-        let x = fresh(marks, k, want, i);
-        rounds[i] = x;
-        i += 1;
-    }
-}
-
-// The choice of position `i`: 65,535 at count 0 and where there is no count.
-fn choose(
-    n: usize,
-    starts: &[u16],
-    successors: &[u16],
-    classes: &[u16],
-    rounds: &[u16],
-    i: usize,
-    flags: &mut [u16],
-) -> u16
-    requires { Tables n starts.now successors.now classes.now × (n ≤ length rounds.now) × (length successors.now ≤ length flags.old) × (i < n) }
-    ensures { result ≡ choice_of (in_tables n starts.now successors.now classes.now) rounds.now i }
-{
-    let r = rounds[i];
-    if r == 0 {
-        return 65535;
-    }
-    if r == 65535 {
-        return 65535;
-    }
-    lowest_at(n, starts, successors, classes, rounds, r - 1, i, flags)
+    let aim = Aim {
+        table: rounds,
+        r: count - 1,
+        want: true,
+    };
+    let Range { start, end } = board.joints.places(i);
+    force_at(board, aim, i, flags).unwrap_or(end - start) as u16
 }
 
 // The table of choices.
-pub fn plan(
-    n: usize,
-    starts: &[u16],
-    successors: &[u16],
-    classes: &[u16],
-    rounds: &[u16],
-    choices: &mut [u16],
-    flags: &mut [u16],
-)
-    requires { Tables n starts.now successors.now classes.now × (n ≤ length rounds.now) × (length choices.old ≡ n) × (length successors.now ≤ length flags.old) }
-    ensures { choices.new ≡ plan_of (in_tables n starts.now successors.now classes.now) rounds.now }
+pub fn plan(board: Board, rounds: &[u16], choices: &mut [u16], flags: &mut [u16])
+    requires { (board.joints.n ≤ length rounds.now) × (length choices.old ≡ board.joints.n) × (length board.joints.successors.now ≤ length flags.old) }
+    ensures { choices.new ≡ plan_of (game_of board.entry) rounds.now }
 {
-    let mut i = 0;
-    while i < n {
-        let x = choose(n, starts, successors, classes, rounds, i, flags);
-        choices[i] = x;
-        i += 1;
+    for (i, choice) in choices.iter_mut().enumerate() {
+        *choice = choose(board, rounds, i, flags);
     }
 }

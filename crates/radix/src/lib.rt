@@ -21,7 +21,7 @@ impl<'a> Joints<'a> {
     // The places of the joint moves of position `i`.
     pub fn places(self, i: usize) -> Range<usize>
         requires { i + 1 < length self.starts.now }
-        ensures { (result.start ≡ get_or self.entry.starts.now i 0) × (result.end ≡ get_or self.entry.starts.now (i + 1) 0) }
+        ensures { (result.start ≡ get_or self.entry.starts.now i 0) × (result.end ≡ get_or self.entry.starts.now (i + 1) 0) × (result.end < 65536) }
     {
         usize::from(self.starts[i])..usize::from(self.starts[i + 1])
     }
