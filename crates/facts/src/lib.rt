@@ -4,7 +4,7 @@
 ghost use Rattle.std.specs.Prelude.{◌≡◌, ◌<◌};
 ghost use Rattle.facts.specs.Bits.{has, insert};
 
-#[derive(Clone, Copy)]
+#[derive(Clone, Copy, PartialEq, Eq, Default)]
 pub struct FactSet {
     pub bits: u64,
 }
@@ -12,15 +12,33 @@ pub struct FactSet {
 pub fn wide(x: u8) -> u64
     ensures { result ≡ x }
 {
-    x as u64
+    u64::from(x)
+}
+
+// The set that a number stands for.
+impl From<u64> for FactSet {
+    ghost from_gives = { λ bits set. set.bits ≡ bits };
+
+    fn from(bits: u64) -> Self {
+        Self { bits }
+    }
+}
+
+// The number that stands for a set.
+impl From<FactSet> for u64 {
+    ghost from_gives = { λ set bits. bits ≡ set.bits };
+
+    fn from(set: FactSet) -> u64 {
+        set.bits
+    }
 }
 
 impl FactSet {
     // The set that a number stands for.
-    pub fn of(bits: u64) -> FactSet
+    pub fn of(bits: u64) -> Self
         ensures { result.bits ≡ bits }
     {
-        FactSet { bits }
+        Self { bits }
     }
 
     // The number that stands for the set.
@@ -34,21 +52,16 @@ impl FactSet {
     pub fn has(self, i: u8) -> bool
         ensures { result ≡ has self.bits i }
     {
-        let k = wide(i);
-        if k < 64 {
-            return (self.bits >> k) % 2 == 1;
-        }
-        false
+        i < 64 && (self.bits >> i) % 2 == 1
     }
 
     // The set with fact i in it.
-    pub fn with(self, i: u8) -> FactSet
+    pub fn with(self, i: u8) -> Self
         requires { i < 64 }
         ensures { result.bits ≡ insert self.bits i }
     {
-        let k = wide(i);
-        FactSet {
-            bits: self.bits | (1u64 << k),
+        Self {
+            bits: self.bits | (1 << i),
         }
     }
 }

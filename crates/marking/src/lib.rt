@@ -50,7 +50,7 @@ impl<'a> Marked<'a> {
         requires { i < length self.marks.now }
         ensures { result ≡ marked_by self.entry i }
     {
-        FactSet::of(self.marks[i]).has(self.k)
+        FactSet::from(self.marks[i]).has(self.k)
     }
 }
 

@@ -1,12 +1,9 @@
--- `facts::FactSet::has` meets its contract: the shift is the bit, and there is no bit beyond the word. Assumes nothing.
-use mathlib.Core.Path.{ap}
+-- `facts::FactSet::has`: there is no bit beyond the word.
+use mathlib.Core.Path.{◌∙◌}
 use native.Mathlib.Omega.{arith}
-use Rattle.facts.specs.Bits.{has}
+use borrow.Author.Tests.{le-ltb}
 use Rattle.facts.specs.Laws.{has_beyond}
 use Rattle.facts.proofs.FactSet.has.Goals as goal
 
-pub returns-then-k-lt64 : goal.returns-then-k-lt64
-returns-then-k-lt64 c = ap (has c.args.self.bits) c.wide-k.ensures
-
-pub returns : goal.returns
-returns c = has_beyond 64 c.args.self.bits c.args.i (omega arith) (omega arith)
+pub returns-else-i-lt64 : goal.returns-else-i-lt64
+returns-else-i-lt64 c = le-ltb c.args.i 64 c.if-i-lt64.false ∙ has_beyond 64 c.args.self.bits c.args.i (omega arith) c.if-i-lt64.false
