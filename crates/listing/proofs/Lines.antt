@@ -1,18 +1,13 @@
 -- The lines of a listing are what the code writes, field by field.
-use Prim.Native.Nat.{ℕ, ◌+◌, ◌≤◌}
-use mathlib.Core.Bool.{Bool, true, false, not, ◌&&◌}
-use mathlib.Core.Path.{◌≡◌, refl, subst}
-use mathlib.Core.List.{List, [], ◌∷◌, ◌++◌, append_assoc}
+use Prim.Native.Nat.{ℕ, ◌+◌}
+use mathlib.Core.Bool.{Bool, true, false}
+use mathlib.Core.Path.{◌≡◌, refl}
+use mathlib.Core.List.{[], ◌∷◌, ◌++◌, append_assoc}
 use native.Mathlib.Numerals.{add-one}
-use native.Mathlib.Omega.{arith}
-use lib.Dec.{eqb}
 use lib.ListN.{get_or}
-use borrow.Author.Tests.{not-true, not-false}
 use Rattle.facts.specs.Bits.{bit}
 use Rattle.listing.specs.Text.{text, decimal, space, line_feed}
-use Rattle.listing.specs.Listing.{Tables, absent, moves_of, shown, state_line, state_lines, verdict_word, first_line, listing, refusal}
-use Rattle.listing.specs.Wrote.{Wrote}
-use Rattle.listing.proofs.Overlay.{wrote_two}
+use Rattle.listing.specs.Listing.{Tables, moves_of, shown, state_line, state_lines, verdict_word, first_line, listing, refusal}
 
 -- the line of a state, from what the code read
 pub state_is : (t : Tables) (i facts moves mark rounds choice : ℕ)
@@ -30,15 +25,6 @@ pub state_is : (t : Tables) (i facts moves mark rounds choice : ℕ)
     ≡ state_line t i
 unfolding state_line
 state_is t i facts moves mark rounds choice f v m r c = rw (f, v, m, r, c) (simp append_assoc)
-
--- a count or a choice, by cases
-pub number_is : (eventually : Bool) (x stop : ℕ) → (eventually && not (eqb x absent)) ≡ true → decimal x ++ (stop ∷ []) ≡ shown eventually x ++ (stop ∷ [])
-number_is true x stop e = rw (not-true (eqb x absent) e)
-number_is false x stop e = cc
-
-pub dash_is : (eventually : Bool) (x stop : ℕ) → (eventually && not (eqb x absent)) ≡ false → text "-" ++ (stop ∷ []) ≡ shown eventually x ++ (stop ∷ [])
-dash_is true x stop e = rw (not-false (eqb x absent) e)
-dash_is false x stop e = refl
 
 -- the word for a verdict, by cases
 pub yes_is : (verdict : Bool) → verdict ≡ true → text "yes\n" ≡ verdict_word verdict ++ (line_feed ∷ [])
@@ -66,19 +52,11 @@ pub lines_none : (t : Tables) → [] ≡ state_lines t 0
 unfolding state_lines
 lines_none t = refl
 
-pub lines_more : {l m o : List ℕ} {at p q : ℕ} (t : Tables) (i : ℕ) → Wrote l at (state_lines t i) m p → Wrote m p (state_line t i) o q
-    → Wrote l at (state_lines t (i + 1)) o q
+pub lines_more : (t : Tables) (i : ℕ) → state_lines t i ++ state_line t i ≡ state_lines t (i + 1)
 unfolding state_lines
-lines_more t i f g = rw add-one (wrote_two f g)
+lines_more t i = rw add-one
 
-pub listing_is : {l m o : List ℕ} {p q : ℕ} (t : Tables) (n : ℕ) (verdict : Bool) (moves i : ℕ)
-    → moves ≡ get_or t.starts n 0
-    → i ≤ n
-    → n ≤ i
-    → Wrote l 0 (first_line n moves verdict) m p
-    → Wrote m p (state_lines t i) o q
-    → Wrote l 0 (listing t n verdict) o q
+pub listing_is : (t : Tables) (n i : ℕ) (verdict : Bool) (moves : ℕ) → moves ≡ get_or t.starts n 0 → i ≡ n
+    → first_line n moves verdict ++ state_lines t i ≡ listing t n verdict
 unfolding listing
-listing_is {l} {m} {o} {p} {q} t n verdict moves i e below above f g =
-    let all : i ≡ n = omega arith in
-    rw (← e) (wrote_two f (subst (λ (k : ℕ). Wrote m p (state_lines t k) o q) all g))
+listing_is t n i verdict moves e all = rw (e, all)

@@ -8,10 +8,11 @@ use native.Mathlib.Numerals.{add-one}
 use native.Mathlib.Omega.{arith}
 use lib.Dec.{leb}
 use lib.ListN.{length, take, drop, get_or, set, length-append}
-use lib.Seq.{length-sets, set_out, take-suc, take_all, drop-nil, length-take-le}
+use lib.Seq.{length-sets, set_out, take-suc, take_all, drop-nil}
 use borrow.Author.Tests.{leb-true, leb-false}
 use Rattle.listing.specs.Buffer.{Prints, Stands}
-use Rattle.listing.specs.Wrote.{overlaid, Wrote}
+use Rattle.listing.specs.declared.text.Text.{Text}
+use Rattle.listing.specs.Wrote.{overlaid, Wrote, Adds}
 
 -- a text that starts behind the end changes nothing
 overlaid_out : (l : List ℕ) (at : ℕ) (t : List ℕ) → length l ≤ at → overlaid l at t ≡ l
@@ -62,35 +63,44 @@ wrote_two {l} {m} {o} {s} {t} {at} {p} {q} f g =
       out = g.out ∙ ap (λ (k : List ℕ). overlaid k p t) f.out ∙ ap (λ (k : ℕ). overlaid (overlaid l at s) k t) f.end ∙ overlaid_on l at s t;
     }
 
--- six texts, one after another
-pub wrote_six : {l m₁ m₂ m₃ m₄ m₅ o s₁ s₂ s₃ s₄ s₅ s₆ : List ℕ} {at p₁ p₂ p₃ p₄ p₅ q : ℕ}
-    → Wrote l at s₁ m₁ p₁
-    → Wrote m₁ p₁ s₂ m₂ p₂
-    → Wrote m₂ p₂ s₃ m₃ p₃
-    → Wrote m₃ p₃ s₄ m₄ p₄
-    → Wrote m₄ p₄ s₅ m₅ p₅
-    → Wrote m₅ p₅ s₆ o q
-    → Wrote l at (((((s₁ ++ s₂) ++ s₃) ++ s₄) ++ s₅) ++ s₆) o q
-wrote_six a b c d e f = wrote_two (wrote_two (wrote_two (wrote_two (wrote_two a b) c) d) e) f
-
-pub wrote_same : {l o s t : List ℕ} {at q : ℕ} → s ≡ t → Wrote l at s o q → Wrote l at t o q
-wrote_same {l} {o} {s} {t} {at} {q} e w = subst (λ (x : List ℕ). Wrote l at x o q) e w
-
 -- one byte inside the buffer, and one behind its end
 pub wrote_byte : (l : List ℕ) (at x : ℕ) → at < length l → Wrote l at (x ∷ []) (set l at x) (at + 1)
 unfolding overlaid
 wrote_byte l at x h = record { end = omega arith; out = refl }
 
-pub wrote_out : (l : List ℕ) (at x : ℕ) → length l ≤ at → Wrote l at (x ∷ []) l (length l)
-wrote_out l at x h = record { end = omega arith; out = sym (overlaid_out l at (x ∷ []) h) }
+pub wrote_full : (l : List ℕ) (at x : ℕ) → at ≤ length l → length l ≤ at → Wrote l at (x ∷ []) l at
+wrote_full l at x below above = record { end = omega arith; out = sym (overlaid_out l at (x ∷ []) above) }
 
--- the loop that copies a text: one byte more, and all of them
-pub copy_more : {l m o : List ℕ} {at p q : ℕ} (s : List ℕ) (j : ℕ) → j < length s → Wrote l at (take j s) m p → Wrote m p (get_or s j 0 ∷ []) o q
-    → Wrote l at (take (j + 1) s) o q
-copy_more s j h f g = wrote_same (rw add-one (sym (take-suc s j 0 h))) (wrote_two f g)
+-- ---- a text that grows
 
-pub copy_all : {l o s : List ℕ} {at q : ℕ} (j : ℕ) → length s ≤ j → Wrote l at (take j s) o q → Wrote l at s o q
-copy_all {s} j h w = wrote_same (take_all j s h) w
+-- nothing more
+pub adds_none : (t : Text) → t.at ≤ length t.out.now → Adds t [] t
+adds_none t h = record { same = refl; wrote = wrote_none (omega arith) }
+
+-- one text after another
+pub adds_two : {t u v : Text} {s r : List ℕ} → Adds t s u → Adds u r v → Adds t (s ++ r) v
+adds_two f g = record { same = g.same ∙ f.same; wrote = wrote_two f.wrote g.wrote }
+
+pub adds_same : {t u : Text} {s r : List ℕ} → s ≡ r → Adds t s u → Adds t r u
+adds_same {t} {u} e a = subst (λ x. Adds t x u) e a
+
+-- six texts, one after another
+pub adds_six : {t₀ t₁ t₂ t₃ t₄ t₅ t₆ : Text} {s₁ s₂ s₃ s₄ s₅ s₆ : List ℕ}
+    → Adds t₀ s₁ t₁
+    → Adds t₁ s₂ t₂
+    → Adds t₂ s₃ t₃
+    → Adds t₃ s₄ t₄
+    → Adds t₄ s₅ t₅
+    → Adds t₅ s₆ t₆
+    → Adds t₀ (((((s₁ ++ s₂) ++ s₃) ++ s₄) ++ s₅) ++ s₆) t₆
+adds_six a b c d e f = adds_two (adds_two (adds_two (adds_two (adds_two a b) c) d) e) f
+
+-- bytes of a text, one after another: one more, and all of them
+pub adds_more : {t u v : Text} (s : List ℕ) (j : ℕ) → j < length s → Adds t (take j s) u → Adds u (get_or s j 0 ∷ []) v → Adds t (take (j + 1) s) v
+adds_more s j h f g = adds_same (rw add-one (sym (take-suc s j 0 h))) (adds_two f g)
+
+pub adds_all : {t u : Text} {s : List ℕ} (j : ℕ) → length s ≤ j → Adds t (take j s) u → Adds t s u
+adds_all {s = s} j h a = adds_same (take_all j s h) a
 
 -- ---- what the public functions say
 
@@ -105,17 +115,14 @@ overlaid_start [] t = overlaid_out [] 0 t (omega arith) ∙ sym (drop-nil (lengt
 overlaid_start (x ∷ l) [] = refl
 overlaid_start (x ∷ l) (y ∷ t) = overlaid_shift y l 0 t ∙ ap (λ (k : List ℕ). y ∷ k) (overlaid_start l t)
 
-pub prints : {l o t : List ℕ} {q : ℕ} → Wrote l 0 t o q → Prints t l o q
-prints {l} {o} {t} {q} w = record { out = w.out ∙ overlaid_start l t; count = omega (arith, w.end) }
+-- a text that was begun at the buffer's start
+pub prints : {l o s : List ℕ} {t u : Text} → t.out.now ≡ l → t.at ≡ 0 → Adds t s u → o ≡ u.out.now → Prints s l o u.at
+prints {l} {o} {s} {t} {u} e f a g = go (rw (← e, ← f) a.wrote)
+  where
+    go : Wrote l 0 s u.out.now u.at → Prints s l o u.at
+    go w = record { out = g ∙ w.out ∙ overlaid_start l s; count = omega (arith, w.end) }
 
 -- where the buffer is long enough nothing is cut
 pub stands : {l o t : List ℕ} {q : ℕ} → length t ≤ length l → Prints t l o q → Stands t l o q
 stands {l} {o} {t} {q} h p =
     record { out = p.out ∙ ap (λ (k : List ℕ). k ++ drop (length t) l) (take_all (length l) t h); count = omega (arith, p.count) }
-
--- what a caller wants that hands the text on as a part of the buffer
-pub counts : {l o t : List ℕ} {q : ℕ} → Wrote l 0 t o q → (q ≤ length o) × (q ≡ length (take q o))
-counts {l} {o} {t} {q} w =
-    let size = wrote_length w in
-    let h : q ≤ length o = omega (arith, w.end) in
-    (h, sym (length-take-le q o h))

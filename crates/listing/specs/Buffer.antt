@@ -16,6 +16,10 @@ pub record Stands (text before after : List ℕ) (r : ℕ) : Type 0 where
 abbrev pub room_for : ℕ → ℕ → ℕ
 room_for k n = 13 + k + n * (31 + 3 * k)
 
+-- Bytes enough for the line of every state whose number has at most four digits: 46.
+abbrev pub line_room : ℕ
+line_room = 31 + 3 * 5
+
 -- Bytes enough for every listing whose numbers come from sixteen-bit tables: 47,122.
 abbrev pub listing_room : ℕ
 listing_room = room_for 5 state_limit

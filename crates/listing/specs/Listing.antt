@@ -2,6 +2,7 @@
 use Rattle.std.specs.Prelude.{ℕ, zero, suc, ◌+◌, ◌-◌, Bool, true, false, cond, List, [], ◌∷◌, ◌++◌, eqb, get_or}
 use Rattle.facts.specs.Bits.{bit}
 use Rattle.listing.specs.Text.{text, decimal, line}
+use Rattle.listing.specs.declared.Shown.{Shown}
 
 -- The tables that a listing reads, the number of the last node, and whether that node is EVENTUALLY.
 pub record Tables : Type 0 where
@@ -63,3 +64,7 @@ refusal number place = line (text "no" ∷ decimal number ∷ decimal place ∷ 
 -- The tables as a record, from the lists that are lent.
 abbrev pub tables_of : List ℕ → List ℕ → List ℕ → List ℕ → List ℕ → ℕ → Bool → Tables
 tables_of s f m r c l e = record { states = s; starts = f; marks = m; rounds = r; choices = c; last = l; eventually = e }
+
+-- The tables that the code lends.
+abbrev pub tables_in : Shown → Tables
+tables_in t = tables_of t.states.now t.starts.now t.marks.now t.rounds.now t.choices.now t.last t.eventually

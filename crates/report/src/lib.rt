@@ -5,11 +5,11 @@ ghost use Rattle.std.specs.Prelude.{◌≡◌};
 ghost use Rattle.sheet.specs.declared.Answer.TheVariants.{Accepted as Read};
 ghost use Rattle.sheet.specs.Reading.{read_sheet};
 ghost use Rattle.io.specs.Counts.{IsPrefixLen};
-ghost use Rattle.listing.specs.Buffer.{Prints};
 ghost use Rattle.engine.specs.Promise.{tables};
-ghost use Rattle.report.specs.Report.{is_reach, is_eventually, last_at, last_in, listing_of, Reports};
+ghost use Rattle.report.specs.Report.{is_reach, is_eventually, last_at, last_in, Reports};
 
 use engine::Answer;
+use listing::Shown;
 use sheet::Layout;
 use sheet::question::{Future, Question};
 
@@ -76,39 +76,6 @@ fn last_in(s: &[u8]) -> Last
     }
 }
 
-// The listing of an accepted sheet.
-fn print_listing(
-    s: &[u8],
-    n: usize,
-    verdict: bool,
-    states: &[u64],
-    starts: &[u16],
-    successors: &[u16],
-    rounds: &[u16],
-    choices: &[u16],
-    marks: &[u64],
-    out: &mut [u8],
-) -> usize
-    ensures prints { Prints
-        (listing_of s.now (tables states.now starts.now successors.now rounds.now choices.now marks.now) n verdict)
-        out.old out.new result }
-    ensures prefix_len { IsPrefixLen result out.new }
-{
-    let last = last_in(s);
-    listing::print(
-        out,
-        n,
-        states,
-        starts,
-        marks,
-        rounds,
-        choices,
-        last.number,
-        last.eventually,
-        verdict,
-    )
-}
-
 // Solves a sheet and writes what is printed of it at the buffer's start; answers how many bytes that is.
 pub fn report(
     s: &[u8],
@@ -128,11 +95,21 @@ pub fn report(
 {
     let answer = engine::solve(s, states, starts, successors, rounds, choices, marks);
     match answer {
-        Answer::Accepted(n, m, verdict) => print_listing(
-            s, n, verdict, states, starts, successors, rounds, choices, marks, out,
-        ),
+        Answer::Accepted(n, m, verdict) => {
+            let last = last_in(s);
+            let shown = Shown {
+                states,
+                starts,
+                marks,
+                rounds,
+                choices,
+                last: last.number,
+                eventually: last.eventually,
+            };
+            listing::print(out, shown, n, verdict)
+        }
         Answer::Refused(r) => {
-            let number = facts::wide(engine::number(r));
+            let number = u64::from(engine::number(r));
             let place = engine::place(r) as u64;
             listing::print_refusal(out, number, place)
         }

@@ -1,3 +1,2 @@
--- The laws of padded tables and of clearing.
+-- The laws of padded tables.
 pub mod Pad
-pub mod Clear

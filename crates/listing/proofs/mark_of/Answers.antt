@@ -9,5 +9,5 @@ use Rattle.listing.proofs.mark_of.Goals as goal
 pub returns-else-node-lt64 : goal.returns-else-node-lt64
 returns-else-node-lt64 c =
     let node = c.args.node in
-    let word = c.entry64-word in
-    sym (ap (λ (w : ℕ). bit w node) (sym word.ensures) ∙ bit_beyond 64 word.result node (omega arith) (omega arith))
+    let word = c.entry-word in
+    sym (ap (λ (w : ℕ). bit w node) (sym (word.ensures 0 (λ d e. e))) ∙ bit_beyond 64 word.result node (omega arith) (omega arith))

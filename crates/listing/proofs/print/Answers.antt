@@ -1,34 +1,34 @@
--- `listing::print` meets its contract. The invariant: behind the first line stand the lines of the first i states.
+-- `listing::print` meets its contract: behind the first line stand the lines of the first i states.
+use Rattle.std.proofs.Common.{rules, ◌≡◌, add-one, subst, ℕ, length, ◌≤◌, ◌*◌}
 use native.Mathlib.Omega.{arith}
-use Rattle.listing.proofs.Overlay.{wrote_length, wrote_none, wrote_same, prints, stands, counts}
-use Rattle.listing.specs.Listing.{tables_of}
-use Rattle.listing.proofs.Lines.{lines_none, lines_more, listing_is}
-use Rattle.listing.proofs.Bound.{longest}
+use Rattle.listing.specs.Listing.{tables_in, state_lines}
+use Rattle.listing.proofs.Overlay.{adds_none, adds_two, adds_same, prints, stands}
+use Rattle.listing.proofs.Lines.{lines_more, listing_is}
+use Rattle.listing.proofs.Bound.{lines_few, listing_few}
 use Rattle.listing.proofs.print.Goals as goal
 
 pub loop-i-init : goal.loop-i-init
-loop-i-init c =
-    let first = c.put_first-end.ensures in
-    (wrote_same (lines_none _) (wrote_none (omega (arith, first.end, wrote_length first))), omega arith, omega arith)
+unfolding state_lines
+loop-i-init c = record { adds = adds_none _ c.put_first.new.text.within; short = λ few. omega arith }
 
 pub loop-i-preserved : goal.loop-i-preserved
-loop-i-preserved c =
-    let w = lines_more _ _ c.loop-i.invariant.0 c.put_state-end.ensures in
-    (w, omega arith, wrote_length w)
+loop-i-preserved c = record {
+  adds = adds_same (lines_more _ _) (adds_two c.loop-i.invariant.adds c.put_state.ensures.adds);
+  short = λ few. rw add-one (lines_few _ _ _ (c.loop-i.invariant.short few) (c.put_state.ensures.short (omega arith)));
+}
 
 pub returns : goal.returns
 returns c =
-    let loop = c.loop-i in
     let a = c.args in
-    let t = tables_of a.states.now a.starts.now a.marks.now a.rounds.now a.choices.now a.last a.eventually in
-    let w = listing_is t a.n a.verdict _ _ c.entry16.ensures loop.invariant.1 c.loop-i-test.false c.put_first-end.ensures loop.invariant.0 in
-    let p = prints w in
-    let states = c.type_inv.states in
-    let starts = c.type_inv.starts in
-    let rounds = c.type_inv.rounds in
-    let choices = c.type_inv.choices in
+    let t = tables_in a.shown in
+    let all : c.loop-i.i ≡ a.n = omega arith in
+    let moves = c.entry.ensures 0 (λ d e. e) in
+    let w = adds_same (listing_is t a.n _ a.verdict _ moves all) (adds_two c.put_first.ensures c.loop-i.invariant.adds) in
+    let p = prints c.new-text.ensures.now c.new-text.ensures.at w (search rules) in
     record {
       prints = p;
-      stands = λ few room. stands (omega (arith, longest t a.n a.verdict few states starts rounds choices)) p;
-      prefix_len = counts w;
+      stands = λ few room.
+          let lines = subst (λ (i : ℕ). length (state_lines t i) ≤ i * 46) all (c.loop-i.invariant.short few) in
+          stands (omega (arith, listing_few 5 t a.n a.verdict (omega arith) (omega arith) (omega (arith, moves)) lines)) p;
+      prefix_len = search rules;
     }
