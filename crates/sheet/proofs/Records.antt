@@ -72,7 +72,7 @@ module _ (s : List ℕ) where
   byte_at at i = get_or-drop at s i 0
 
   -- what n literals' bytes hold
-  body_is : (n at : ℕ) → at + 3 * n ≤ length s → parts_of (take (3 * n) (drop at s)) ≡ body_from s at n
+  pub body_is : (n at : ℕ) → at + 3 * n ≤ length s → parts_of (take (3 * n) (drop at s)) ≡ body_from s at n
   body_is zero at l = parts_short _ (omega arith)
   body_is (suc n) at l =
       let t = take (3 * suc n) (drop at s) in

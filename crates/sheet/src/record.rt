@@ -4,17 +4,26 @@ ghost use Rattle.sheet.specs.Data.{rules_end, rules_from};
 ghost use Rattle.sheet.specs.Records.{rules_of};
 
 // A kind with its fields a and b: a rule's head, or a literal.
-#[derive(Clone, Copy, PartialEq, Eq)]
+#[derive(Clone, Copy, Debug, PartialEq, Eq)]
 pub struct Part {
     pub kind: u8,
     pub a: u8,
     pub b: u8,
 }
 
+// A node of the question: a kind with its fields a and b, and a coalition.
+#[derive(Clone, Copy, Debug, PartialEq, Eq)]
+pub struct Node {
+    pub kind: u8,
+    pub a: u8,
+    pub b: u8,
+    pub coalition: u8,
+}
+
 // The literals of a body that are left, three bytes each.
 #[derive(Clone, Copy)]
 pub struct Body<'a> {
-    bytes: &'a [u8],
+    pub(crate) bytes: &'a [u8],
 }
 
 // A rule: its head holds where all literals of its body do.

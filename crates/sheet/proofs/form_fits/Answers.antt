@@ -1,16 +1,12 @@
--- `sheet::form_fits` meets its contract: one law a return, by the head.
-use native.Mathlib.Omega.{arith}
-use Rattle.sheet.proofs.Laws.{form_init, form_next, form_else}
+-- `sheet::form_fits` meets its contract: under another head than INIT and NEXT all literals are plain.
+use Rattle.std.proofs.Common.{rules, tests, refl, ◌≡◌, ◌∙◌, arith}
+use Rattle.std.proofs.lemmas.Iterator.Search.{all_from_yields_List}
+use Rattle.std.proofs.lemmas.Iterator.Consumers.{YieldsList-from_first}
+use Rattle.sheet.specs.Fields.{plain, form_fits}
+use borrow.Author.Tests.{ne_eqb}
+use Rattle.sheet.specs.Records.{literals}
 use Rattle.sheet.proofs.form_fits.Goals as goal
 
-pub returns-then-kind-eq1 : goal.returns-then-kind-eq1
-returns-then-kind-eq1 c = form_init c.args.s.now c.args.at _ c.wide-n.ensures c.if-kind-eq1.true
-
-pub returns-then-kind-eq2 : goal.returns-then-kind-eq2
-returns-then-kind-eq2 c = form_next c.args.s.now c.args.at _ c.wide-n.ensures c.if-kind-eq1.false c.if-kind-eq2.true
-
-pub all_plain-requires : goal.all_plain-requires
-all_plain-requires c = omega (arith, c.wide-n.ensures)
-
-pub returns : goal.returns
-returns c = form_else c.args.s.now c.args.at _ c.wide-n.ensures _ c.if-kind-eq1.false c.if-kind-eq2.false c.all_plain.ensures
+pub returns-in_default : goal.returns-in_default
+unfolding form_fits
+returns-in_default c = let one : c.args.rule.head.kind ≡ 1 → ⊥ = λ e. omega arith in let two : c.args.rule.head.kind ≡ 2 → ⊥ = λ e. omega arith in let plainly = all_from_yields_List plain _ _ _ c.all.ensures.ran (YieldsList-from_first (λ x. x) literals _ refl) (λ x b q k. search (rules, tests)) in plainly ∙ simp (ne_eqb _ _ one, ne_eqb _ _ two)

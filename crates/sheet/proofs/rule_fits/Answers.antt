@@ -1,14 +1,13 @@
 -- `sheet::rule_fits` meets its contract: the head fits, and then every literal.
-use native.Mathlib.Omega.{arith}
-use mathlib.Core.Path.{sym, ◌∙◌}
-use Rattle.sheet.proofs.Laws.{fits_more, fits_stop}
+use Rattle.std.proofs.Common.{rules, tests, refl, sym, ap, ◌∙◌, Bool}
+use mathlib.Core.Bool.{◌&&◌}
+use Rattle.std.specs.List.{list_all}
+use Rattle.std.proofs.lemmas.Iterator.Search.{all_from_yields_List}
+use Rattle.std.proofs.lemmas.Iterator.Consumers.{YieldsList-from_first}
+use Rattle.sheet.specs.Fields.{literal_fits, rule_fits}
+use Rattle.sheet.specs.Records.{literals}
 use Rattle.sheet.proofs.rule_fits.Goals as goal
 
-pub literals_fit-requires : goal.literals_fit-requires
-literals_fit-requires c = omega (arith, c.wide-n.ensures)
-
 pub returns-then-head_fits : goal.returns-then-head_fits
-returns-then-head_fits c = fits_more _ c.args.s.now c.args.at _ c.wide-n.ensures _ (sym c.head_fits.ensures ∙ c.if-head_fits.true) c.literals_fit.ensures
-
-pub returns : goal.returns
-returns c = fits_stop _ c.args.s.now c.args.at _ c.wide-n.ensures (sym c.head_fits.ensures ∙ c.if-head_fits.false)
+unfolding rule_fits
+returns-then-head_fits c = let all = all_from_yields_List (literal_fits c.args.z) _ _ _ c.all.ensures.ran (YieldsList-from_first (λ x. x) literals _ refl) (λ x b q k. search (rules, tests)) in all ∙ ap (λ (b : Bool). b && list_all (literal_fits c.args.z) (literals c.args.rule.body)) (sym c.if-head_fits.true ∙ c.head_fits.ensures)
