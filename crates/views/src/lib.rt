@@ -100,7 +100,7 @@ pub fn round(q: &mut [u64; 64], k: usize)
 }
 
 // The rows, closed: all views to which a chain leads.
-#[tactic(auto, using(crate::proofs::Laws::close_next))]
+#[tactic(auto, using(crate::proofs::Laws::close_next), unfolding(crate::specs::Reference::close))]
 pub fn closure(q: &mut [u64; 64])
     ensures { q.new ≡ close 64 q.old }
 {
@@ -112,7 +112,7 @@ pub fn closure(q: &mut [u64; 64])
 // ---- the levels
 
 // The views whose row has c ones.
-#[tactic(auto, using(std::proofs::lemmas::Bool::Decides::nat_tests, crate::proofs::Laws::pack_more))]
+#[tactic(auto, using(std::proofs::lemmas::Bool::Decides::nat_tests, crate::proofs::Laws::pack_more), unfolding(facts::specs::Pack::pack))]
 pub fn mask_of(q: &[u64; 64], c: u32) -> FactSet
     ensures { result.bits ≡ mask_at q.now c }
 {

@@ -5,10 +5,6 @@ use Rattle.facts.specs.Pack.{pack}
 use Rattle.views.specs.Sheet.{mask_at}
 use Rattle.views.proofs.mask_of.Goals as goal
 
-pub loop-v-init : goal.loop-v-init
-unfolding pack
-loop-v-init c = c.of-x.ensures
-
 pub returns : goal.returns
 unfolding mask_at
 returns c =
