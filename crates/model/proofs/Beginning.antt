@@ -36,7 +36,7 @@ zeros {limit} h f = record {
 }
 
 -- with the initial state alone nothing is expanded; the first start is zero, as the cleared table has it
-pub first : (R : Rules) (seen : ℕ → ℕ) {limit joints x : ℕ} {g : Growing} → Fresh limit joints x g → g.tests ≡ replicate state_limit 0 → g.forks ≡ replicate link_limit 0 → x ≡ R.initial → 0 < limit → Stage R seen limit joints 0 g
+pub first : (R : Rules) (seen : ℕ → ℕ) {limit joints x : ℕ} {g : Growing} → Fresh limit joints x g → g.tree.tests ≡ replicate state_limit 0 → g.tree.forks ≡ replicate link_limit 0 → x ≡ R.initial → 0 < limit → Stage R seen limit joints 0 g
 first R seen {limit} {joints} {x} {g} f no_tests no_forks e h =
     let one : 1 ≤ limit = omega arith in
     let long : 1 ≤ length g.states.now = omega (arith, ap length f.states_are ∙ length_pad limit (x ∷ []) one) in

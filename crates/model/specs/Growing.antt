@@ -7,9 +7,12 @@ use Rattle.meaning.specs.Rules.{Rules}
 use Rattle.meaning.specs.Model.{found, IsRefusal}
 use Rattle.meaning.specs.Filling.{grown, add, starts_to, successors_to}
 use Rattle.meaning.proofs.Outcome.{SoFar}
+use Rattle.sheet.specs.Reading.{sheet_in}
+use Rattle.position.specs.Position.{rules_of}
 use Rattle.offer.specs.Offer.{role_limit}
+use Rattle.offer.specs.declared.Study.{Study}
 use Rattle.model.specs.Counts.{counts_to}
-use Rattle.model.specs.Views.{views_to}
+use Rattle.model.specs.Views.{views_of, views_to}
 use Rattle.model.specs.Tables.{Holds, numbers, Sized}
 use Rattle.model.specs.Answers.{number_of, place_of, Accepts}
 use Rattle.model.specs.declared.Refusal.{Refusal}
@@ -29,8 +32,8 @@ pub record Lent (g h : Growing) : Type 0 where
   pub views_long : length h.views.now ≡ length g.views.now
 
 -- The tables have their lengths.
-abbrev pub SizedIn : ℕ → ℕ → Growing → Type 0
-SizedIn limit joints g = Sized limit joints g.states.now g.starts.now g.successors.now g.counts.now g.views.now
+abbrev pub Lengths : ℕ → ℕ → Growing → Type 0
+Lengths limit joints g = Sized limit joints g.states.now g.starts.now g.successors.now g.counts.now g.views.now
 
 -- The rows of the positions stay: starts, counts and views.
 pub record Rows (g h : Growing) : Type 0 where
@@ -41,7 +44,7 @@ pub record Rows (g h : Growing) : Type 0 where
 -- The table of states holds l, and its tree finds each.
 pub record Numbered (limit : ℕ) (l : List ℕ) (g : Growing) : Type 0 where
   pub holds : Holds limit g.states.now g.found l
-  pub treed : Treed g.states.now g.found g.tests g.forks
+  pub treed : Treed g.states.now g.found g.tree.tests g.tree.forks
 
 -- The five tables hold the state x and zeros alone.
 pub record Fresh (limit joints x : ℕ) (g : Growing) : Type 0 where
@@ -62,6 +65,13 @@ Entered limit l t None g = limit < length (grown l t)
 abbrev pub Listed : (limit joints : ℕ) (l z ts : List ℕ) → ℕ → Option (Unit {0}) → Growing → Type 0
 Listed limit joints l z ts at (Some u) g = Numbered limit (add l ts) g × Holds joints g.successors.now g.listed (z ++ numbers (add l ts) ts) × (g.listed ≡ at)
 Listed limit joints l z ts at None g = limit < length (add l ts)
+
+-- The rules of the game that is studied, and the views of each of its positions.
+abbrev pub rules_in : Study → Rules
+rules_in t = rules_of (sheet_in t.s.now t.y)
+
+abbrev pub seen_in : Study → ℕ → ℕ
+seen_in t = views_of (sheet_in t.s.now t.y)
 
 -- The game's rules, the views of each position, and the limits.
 module _ (R : Rules) (seen : ℕ → ℕ) (limit joints : ℕ) where

@@ -11,14 +11,12 @@ ghost use Rattle.model.specs.Answers.{Builds};
 
 mod growing;
 
-use codes::{CODE_ROOM, ENDS_ROOM, compile};
-use firing::end_at;
-use growing::Growing;
-use keys::{GIFT_ROOM, HINT_ROOM, KEY_ROOM, KIND_ROOM, RULE_ROOM, file};
-use lookup::LINK_LIMIT;
-use offer::initial;
+use codes::{CODE_ROOM, Codes, ENDS_ROOM, compile};
+use growing::{Growing, Room};
+use keys::{GIFT_ROOM, Keys, Memo};
+use lookup::Tree;
+use offer::{Study, initial};
 use sheet::Layout;
-use tables::STATE_LIMIT;
 
 // Why there is no model, and which state was being expanded.
 #[derive(Clone, Copy)]
@@ -52,57 +50,32 @@ pub fn build(
     ensures { Builds (rules_of (sheet_in s.now y)) (views_of (sheet_in s.now y)) state_limit move_limit result
         states.new starts.new successors.new counts.new views.new }
 {
-    let mut code = [0u64; CODE_ROOM];
-    let mut ends = [0u16; ENDS_ROOM];
-    compile(s, y.top, y.rules, masks, &mut code, &mut ends);
-    let mut keys = [0u64; KEY_ROOM];
-    let mut probes = [0u8; STATE_LIMIT];
-    let mut links = [0u16; LINK_LIMIT];
-    let mut hints = [0u16; HINT_ROOM];
-    let mut homes = [0u16; RULE_ROOM];
-    let mut kinds = [0u64; KIND_ROOM];
-    let next = end_at(&ends, 0);
-    let filed = file(
-        &code,
-        next,
-        &mut keys,
-        &mut probes,
-        &mut links,
-        &mut hints,
-        &mut homes,
-        &mut kinds,
-    );
-    let mut gifts = [0u64; GIFT_ROOM];
-    let mut asked = [0u64; KIND_ROOM];
-    let mut places = [0u16; KIND_ROOM];
+    let mut codes = Codes {
+        code: [0; CODE_ROOM],
+        ends: [0; ENDS_ROOM],
+    };
+    compile(s, y.top, y.rules, masks, &mut codes.code, &mut codes.ends);
+    let study = Study {
+        s,
+        y,
+        masks,
+        codes: &codes,
+        moves,
+    };
+    let keys = Keys::file(&codes.code, usize::from(codes.ends[0]));
+    let mut room = Room {
+        gifts: [0; GIFT_ROOM],
+        memo: Memo::new(),
+    };
     let mut growing = Growing {
         states,
         starts,
         successors,
         counts,
         views,
-        tests: [0; STATE_LIMIT],
-        forks: [0; LINK_LIMIT],
+        tree: Tree::new(),
         found: 0,
         listed: 0,
     };
-    growing.fill(
-        initial(s, y),
-        s,
-        y,
-        masks,
-        &code,
-        &ends,
-        moves,
-        &homes,
-        &keys,
-        &probes,
-        &links,
-        &hints,
-        filed,
-        &kinds,
-        &mut gifts,
-        &mut asked,
-        &mut places,
-    )
+    growing.fill(initial(s, y), study, &keys, &mut room)
 }

@@ -3,7 +3,6 @@ use native.Mathlib.Omega.{arith}
 use Rattle.sheet.specs.Reading.{sheet_in}
 use Prim.Native.Nat.{ℕ}
 use lib.ListN.{length-replicate}
-use mathlib.Core.Path.{refl}
 use Rattle.codes.proofs.Fits.{fits_sound}
 use Rattle.keys.proofs.Homing.{memo_start}
 use Rattle.offer.proofs.Laws.{file_asks}
@@ -18,12 +17,9 @@ compile-requires c = (
   record { code_long = length-replicate {A = ℕ} 3072 0; ends_long = length-replicate {A = ℕ} 67 0 },
 )
 
-pub end_at-next-requires : goal.end_at-next-requires
-end_at-next-requires c = (file_asks c.compile.ensures.compiled c.compile.ensures.sized).0
-
-pub file-filed-requires : goal.file-filed-requires
-file-filed-requires c =
-    let asks = file_asks c.compile.ensures.compiled c.compile.ensures.sized in (omega (arith, c.end_at-next.ensures, asks.1), omega (arith, c.end_at-next.ensures, asks.2), refl, refl, refl, refl, refl, refl)
+pub file-keys-requires : goal.file-keys-requires
+file-keys-requires c =
+    let asks = file_asks c.compile.ensures.compiled c.compile.ensures.sized in (omega (arith, c.from.ensures, asks.0), omega (arith, c.from.ensures, asks.1))
 
 pub fill-requires-clause-memo : goal.fill-requires-clause-memo
-fill-requires-clause-memo c = memo_start c.file-filed.ensures refl refl
+fill-requires-clause-memo c = memo_start c.file-keys.ensures c.new.ensures.asked c.new.ensures.places

@@ -8,4 +8,4 @@ use Rattle.model.proofs.growing.note_counts.Goals as goal
 
 pub loop-r-preserved : goal.loop-r-preserved
 loop-r-preserved c =
-    row_more role_limit (role_of c.args.o c.args.y.sizes.roles) (take (role_limit * c.args.k) c.args.counts.now) c.loop-r.invariant c.loop-r-test.true c.role_count.ensures (omega arith) (omega arith)
+    row_more role_limit (role_of c.args.offer c.args.roles) (take (role_limit * c.args.k) c.args.counts.now) c.loop-r.invariant c.loop-r-test.true c.role_count.ensures (omega arith) (omega arith)

@@ -9,4 +9,4 @@ use Rattle.model.specs.Tables.{Holds}
 use Rattle.model.proofs.growing.note_counts.Given as goal
 
 abbrev pub invariant-loop-r : goal.invariant-loop-r
-invariant-loop-r l = Holds (role_limit * state_limit) l.counts (role_limit * l.k + l.r) (take (role_limit * l.k) l.initial.counts ++ take l.r (tabulate role_limit (role_of l.o l.y.sizes.roles)))
+invariant-loop-r l = Holds (role_limit * state_limit) l.counts (role_limit * l.k + l.r) (take (role_limit * l.k) l.initial.counts ++ take l.r (tabulate role_limit (role_of l.offer l.roles)))

@@ -5,5 +5,6 @@ use Rattle.model.proofs.growing.Growing.enter.Goals as goal
 
 pub returns-then-n-lt-STATE_LIMIT-clause-entered : goal.returns-then-n-lt-STATE_LIMIT-clause-entered
 returns-then-n-lt-STATE_LIMIT-clause-entered c =
-    let new = entered_new {t = c.args.t} c.requires.holds (omega (arith, c.seek-at.ensures, c.if-at-n.false)) c.if-n-lt-STATE_LIMIT.true c.enroll.new.tests c.enroll.new.forks c.enroll.ensures in
+    let tree = c.enroll.new.self in
+    let new = entered_new {t = c.args.t} c.requires.holds (omega (arith, c.in_default.ensures)) c.if-n-lt-STATE_LIMIT.true tree.tests tree.forks c.enroll.ensures in
     (new.0, record { holds = new.1; treed = new.2 })

@@ -10,15 +10,15 @@ use Rattle.model.proofs.Answering.{lacks_choice, too_many_moves, expanded}
 use Rattle.model.proofs.growing.Growing.expand.Goals as goal
 
 pub joint_count-m-requires : goal.joint_count-m-requires
-joint_count-m-requires c = few_roles (sheet_in c.args.s.now c.args.y) c.requires.whole.fits
+joint_count-m-requires c = few_roles (sheet_in c.args.study.s.now c.args.study.y) c.requires.ready.whole.fits
 
 pub returns-then-m-eq0-clause-expanded : goal.returns-then-m-eq0-clause-expanded
 returns-then-m-eq0-clause-expanded c =
-    lacks_choice (sheet_in c.args.s.now c.args.y) c.requires.whole.fits state_limit move_limit c.requires.stage c.requires.inside refl c.offer_at-o.ensures c.joint_count-m.ensures c.if-m-eq0.true
+    lacks_choice (sheet_in c.args.study.s.now c.args.study.y) c.requires.ready.whole.fits state_limit move_limit c.requires.stage c.requires.inside refl c.offer_at-offer.ensures c.joint_count-m.ensures c.if-m-eq0.true
 
 pub returns-then-self-m-clause-expanded : goal.returns-then-self-m-clause-expanded
 returns-then-self-m-clause-expanded c =
-    too_many_moves (sheet_in c.args.s.now c.args.y) c.requires.whole.fits state_limit move_limit c.requires.stage c.requires.inside refl c.offer_at-o.ensures c.joint_count-m.ensures c.if-m-eq0.false c.if-self-m.true
+    too_many_moves (sheet_in c.args.study.s.now c.args.study.y) c.requires.ready.whole.fits state_limit move_limit c.requires.stage c.requires.inside refl c.offer_at-offer.ensures c.joint_count-m.ensures c.if-m-eq0.false c.if-self-m.true
 
 pub note_counts-requires : goal.note_counts-requires
 note_counts-requires c =
@@ -28,8 +28,7 @@ pub bounds-self-k-3 : goal.bounds-self-k-3
 bounds-self-k-3 c = omega (arith, holds_length c.requires.stage.starts_hold, c.requires.inside, c.requires.stage.numbered.holds.room)
 
 pub gather_at-requires : goal.gather_at-requires
-gather_at-requires c =
-    let asks = gather_asks c.requires.coded c.requires.filing in (asks.0, asks.1, c.requires.gifts)
+gather_at-requires c = (gather_asks c.requires.ready.coded c.requires.filing, omega arith)
 
 pub list_targets-requires-clause-numbered : goal.list_targets-requires-clause-numbered
 list_targets-requires-clause-numbered c = record { holds = holds_clean c.requires.stage.numbered.holds; treed = c.requires.stage.numbered.treed }
@@ -38,11 +37,11 @@ pub list_targets-requires-clause-clean : goal.list_targets-requires-clause-clean
 list_targets-requires-clause-clean c = holds_clean c.requires.stage.successors_hold
 
 pub list_targets-requires-clause-serves : goal.list_targets-requires-clause-serves
-list_targets-requires-clause-serves c = gathered_serves c.requires.coded c.requires.filing c.requires.whole.fits _ c.gather_at.ensures
+list_targets-requires-clause-serves c = gathered_serves c.requires.ready.coded c.requires.filing c.requires.ready.whole.fits _ c.gather_at.ensures
 
 pub returns-clause-expanded : goal.returns-clause-expanded
 returns-clause-expanded c =
     let after = c.list_targets.ensures in
     rw c.ok_or.ensures.value
-    (expanded (sheet_in c.args.s.now c.args.y) c.requires.whole.fits state_limit move_limit c.requires.stage c.requires.inside refl c.offer_at-o.ensures c.joint_count-m.ensures
+    (expanded (sheet_in c.args.study.s.now c.args.study.y) c.requires.ready.whole.fits state_limit move_limit c.requires.stage c.requires.inside refl c.offer_at-offer.ensures c.joint_count-m.ensures
     c.if-m-eq0.false c.if-self-m.false _ _ after.listed c.number.ensures (rw after.rows.counts c.note_counts.ensures) (ap (λ t. t.now) after.rows.starts) (ap (λ t. t.now) after.rows.views))

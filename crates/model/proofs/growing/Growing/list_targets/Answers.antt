@@ -6,14 +6,16 @@ use Rattle.model.proofs.Targets.{going_fits, going_more, going_over, going_all}
 use Rattle.model.proofs.growing.Growing.list_targets.Goals as goal
 
 pub enter-requires : goal.enter-requires
-enter-requires c = let n = c.loop-j.invariant.going.numbered in record { holds = holds_clean n.holds; treed = n.treed }
+enter-requires c =
+    let n = c.loop-j.invariant.going.numbered in record { holds = holds_clean n.holds; treed = n.treed }
 
 pub returns-in_err-i-clause-listed : goal.returns-in_err-i-clause-listed
 returns-in_err-i-clause-listed c =
     rw c.from_residual.ensures (going_over _ _ c.loop-j.invariant.going c.reach-to.ensures.0 c.loop-j-test.true c.in_err-i.ensures.entered)
 
 pub overflow_cast-self : goal.overflow_cast-self
-overflow_cast-self c = omega (arith, going_fits _ _ c.loop-j.invariant.going c.reach-to.ensures.0 c.loop-j-test.true c.in_ok-i.ensures.entered.0)
+overflow_cast-self c =
+    omega (arith, going_fits _ _ c.loop-j.invariant.going c.reach-to.ensures.0 c.loop-j-test.true c.in_ok-i.ensures.entered.0)
 
 pub loop-j-preserved : goal.loop-j-preserved
 loop-j-preserved c =
@@ -26,4 +28,5 @@ loop-j-preserved c =
 
 pub returns-clause-listed : goal.returns-clause-listed
 returns-clause-listed c =
-    let all = going_all _ _ c.loop-j.invariant.going c.loop-j-test.false in (all.0, all.1, omega (arith, c.loop-j.invariant.going.listed, c.loop-j-test.false))
+    let all = going_all _ _ c.loop-j.invariant.going c.loop-j-test.false in
+    (all.0, all.1, omega (arith, c.loop-j.invariant.going.listed, c.loop-j-test.false))

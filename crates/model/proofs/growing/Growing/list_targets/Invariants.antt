@@ -3,7 +3,7 @@ use lib.ListN.{take}
 use Rattle.tables.specs.Lengths.{state_limit, move_limit}
 use Rattle.atl.specs.Bounded.{tabulate}
 use Rattle.sheet.specs.Reading.{sheet_in}
-use Rattle.keys.specs.Keys.{Memo}
+use Rattle.keys.specs.Keys.{keys_in, Remembers}
 use Rattle.offer.specs.Offer.{target_of}
 use Rattle.model.specs.Growing.{Lent, Rows}
 use Rattle.model.proofs.Targets.{Going}
@@ -14,6 +14,6 @@ invariant-loop-j l = record {
   lent : Lent l.initial.self l.self;
   rows : Rows l.initial.self l.self;
   going : Going state_limit move_limit (take l.initial.self.found l.initial.self.states.now) (take l.initial.self.listed l.initial.self.successors.now) l.initial.self.listed
-      (tabulate l.m (target_of (sheet_in l.s l.y) l.o)) l.j l.self;
-  memo : Memo (take l.filed.keys l.keys) l.asked l.places;
+      (tabulate l.m (target_of (sheet_in l.targets.s.now l.targets.y) l.targets.offer)) l.j l.self;
+  memo : Remembers (keys_in l.targets.keys.now) l.memo;
 }
