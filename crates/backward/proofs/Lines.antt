@@ -11,7 +11,7 @@ use borrow.Author.Tests.{eq-eqb, ne_eqb}
 use Rattle.atl.specs.Game.{Game}
 use Rattle.radix.specs.Classes.{moves_at}
 use Rattle.incoming.specs.Index.{at}
-use Rattle.incoming.specs.Owners.{Incoming}
+use Rattle.incoming.specs.Owners.{IsIncoming}
 use Rattle.incoming.proofs.Owners.{before, owned, owner_at, total_in}
 use Rattle.marking.specs.Table.{in_tables, Tables}
 use Rattle.backward.specs.Walk.{kind}
@@ -36,7 +36,7 @@ same_shift x y z = go (ℕ_discrete y z)
     go (no e) = ne_eqb y z e ∙ sym (ne_eqb (x + y) (x + z) (λ o. e (omega arith)))
 
 -- the tables hold such a line
-module _ {n : ℕ} {starts successors classes froms index owners : List ℕ} (s : Tables n starts successors classes) (is : Incoming n starts successors froms index owners) where
+module _ {n : ℕ} {starts successors classes froms index owners : List ℕ} (s : Tables n starts successors classes) (is : IsIncoming n starts successors froms index owners) where
   place_in : (i j : ℕ) → i < n → j < moves_at starts i → at starts i + j < at starts n
   place_in i j h l = go (ℕ_discrete (i + 1) n)
     where

@@ -1,82 +1,104 @@
 -- What the loops before the walk come to: the counters of the classes, and those of the positions.
-use mathlib.Core.Path.{◌≡◌, sym, ap, ap₂, ◌∙◌}
-use mathlib.Core.Bool.{Bool, false, cond}
-use mathlib.Core.List.{List}
-use Prim.Native.Nat.{ℕ, ◌+◌, ◌-◌, ◌≤◌, ◌<◌}
+use mathlib.Core.Path.{◌≡◌, refl, sym, ap, ap₂, ◌∙◌}
+use mathlib.Core.Bool.{Bool, false, not, cond}
+use mathlib.Core.List.{List, ◌++◌}
+use Prim.Native.Nat.{ℕ, zero, suc, ◌+◌, ◌-◌, ◌≤◌, ◌<◌}
 use native.Mathlib.Nat.{le_refl}
 use native.Mathlib.Numerals.{add-one}
 use native.Mathlib.Omega.{arith}
 use lib.Dec.{eqb, ltb}
-use lib.ListN.{get_or, length}
-use borrow.Author.Tests.{lt-ltb, le-ltb}
-use Rattle.radix.specs.Classes.{moves_at, filled, Starts}
-use Rattle.radix.proofs.Filling.{filled_at, filled_length}
+use lib.ListN.{get_or, length, take, drop, length-drop, replicate, length-replicate, length-append}
+use lib.Seq.{length-take-le}
+use borrow.Author.Tests.{lt-ltb, ne_eqb}
+use Rattle.std.proofs.Common.{add-zero}
+use Rattle.std.specs.List.{count_by}
+use Rattle.std.proofs.lemmas.List.{get_or-take, get_or-drop, get_or-replicate, get_or_append_left, take_all}
+use Rattle.std.proofs.lemmas.List.Sums.{count_by_more_yes, count_by_more_no, count_by-le-length}
+use Rattle.radix.specs.Classes.{moves_at}
 use Rattle.incoming.specs.Index.{at, bit, many}
-use Rattle.incoming.specs.Owners.{Incoming}
 use Rattle.incoming.specs.Build.{tallied}
-use Rattle.incoming.proofs.Counting.{many_le}
+use Rattle.incoming.proofs.Counting.{many_cong, many_le}
 use Rattle.incoming.proofs.Build.{tally_length, tally_at}
 use Rattle.incoming.proofs.Owners.{before}
-use Rattle.marking.specs.Table.{Tables}
-use Rattle.marking.specs.Flags.{cleared}
-use Rattle.marking.proofs.Flags.{cleared_zero}
-use Rattle.backward.specs.Walk.{kind}
+use Rattle.backward.specs.Ground.{positions, joints, class_of, waits}
+use Rattle.backward.specs.declared.ground.Ground.{Ground}
 use Rattle.backward.proofs.Lines.{kind_lt}
 
--- how many of the first k counters from `first` on are not 0
-abbrev pub some : List ℕ → ℕ → ℕ → ℕ
-some left first k = many k (λ j. ltb 0 (at left (first + j)))
-
--- how many classes position i waits for
-abbrev pub waits : List ℕ → Bool → List ℕ → ℕ → ℕ
-waits starts want left i = cond want 1 (some left (at starts i) (moves_at starts i))
-
 -- one counter more
-module _ (left : List ℕ) (first k found : ℕ) (e : found ≡ some left first k) where
-  pub some_le : found ≤ k
-  some_le = omega (arith, many_le k (λ j. ltb 0 (at left (first + j))))
+some_more : (counters : List ℕ) (k : ℕ) → k < length counters → count_by (λ x. not (eqb x 0)) (take k counters) ≡ many k (λ j. ltb 0 (at counters j)) → (x : ℕ) → at counters k ≡ x
+    → count_by (λ x. not (eqb x 0)) (take (k + 1) counters) ≡ many k (λ j. ltb 0 (at counters j)) + bit (ltb 0 (at counters k))
+some_more counters k h f zero e =
+    count_by_more_no (λ x. not (eqb x 0)) counters k 0 h (ap (λ (x : ℕ). not (eqb x 0)) e)
+    ∙ f ∙ sym (add-zero _) ∙ ap (λ (x : ℕ). many k (λ j. ltb 0 (at counters j)) + bit (ltb 0 x)) (sym e)
+some_more counters k h f (suc x) e =
+    count_by_more_yes (λ x. not (eqb x 0)) counters k 0 h (ap not (ne_eqb (at counters k) 0 (λ o. absurd (omega arith))))
+    ∙ ap₂ ◌+◌ f (sym (ap bit (lt-ltb 0 (at counters k) (omega arith))))
 
-  pub some_more : (get_or left (first + k) 0 ≡ 0 → ⊥) → found + 1 ≡ some left first (k + 1)
-  some_more o = rw (add-one k) (ap₂ ◌+◌ e (sym (ap bit (lt-ltb 0 (at left (first + k)) (omega arith)))))
+-- how many of the first k counters are not 0
+some_of : (counters : List ℕ) (k : ℕ) → k ≤ length counters → count_by (λ x. not (eqb x 0)) (take k counters) ≡ many k (λ j. ltb 0 (at counters j))
+some_of counters zero h = refl
+some_of counters (suc k) h = rw (← add-one k) (some_more counters k (omega arith) (some_of counters k (omega arith)) (at counters k) refl)
 
-  pub some_same : get_or left (first + k) 0 ≡ 0 → found ≡ some left first (k + 1)
-  some_same o = rw (add-one k) (let z : bit (ltb 0 (at left (first + k))) ≡ 0 = ap bit (le-ltb 0 (at left (first + k)) (omega arith)) in omega arith)
+-- the counter of one position, from the counters of its classes
+module _ (g : Ground) (left : List ℕ) (i : ℕ) (h : i < positions g) (room : joints g ≤ length left) (first last : ℕ)
+    (e : first ≡ get_or g.board.joints.starts.now i 0) (d : last ≡ get_or g.board.joints.starts.now (i + 1) 0)
+  where
+    pub members_rise : first ≤ last
+    members_rise = omega (arith, g.board.tables.placed.up i h)
 
-  pub some_all : (count : ℕ) → k ≤ count → count ≤ k → found ≡ some left first count
-  some_all count h g = let z : k ≡ count = omega arith in e ∙ ap (some left first) z
+    pub members_end : last ≤ length left
+    members_end = omega (arith, before g.board.tables.placed i (positions g) h (le_refl _))
 
--- the counter of one position
-module _ (starts : List ℕ) (want : Bool) (left : List ℕ) (i : ℕ) where
-  pub waits_all : (first last x : ℕ) → want ≡ false → first ≡ get_or starts i 0 → last ≡ get_or starts (i + 1) 0 → x ≡ some left first (last - first) → x ≡ waits starts want left i
-  waits_all first last x e d f g = rw e (g ∙ ap₂ (λ (y z : ℕ). some left y (z - y)) d f)
+    abbrev pub members : List ℕ
+    members = take (last - first) (drop first left)
 
--- those of all positions
-pub waits_filled : (starts : List ℕ) (want : Bool) (left need need' : List ℕ) (k n : ℕ) → n ≤ length need → k ≤ n → n ≤ k → need' ≡ filled (waits starts want left) need k
-    → (i : ℕ) → i < n → at need' i ≡ waits starts want left i
-waits_filled starts want left need need' k n h g l e i o = ap (λ (m : List ℕ). at m i) e ∙ filled_at (waits starts want left) need k i (omega arith) (omega arith)
+    members_long : length members ≡ last - first
+    members_long = length-take-le (last - first) _ (omega (arith, members_end, length-drop first left))
 
-module _ {n : ℕ} {starts successors classes : List ℕ} (s : Tables n starts successors classes) where
-  -- where there is room for all joint moves, there is for those of each position
-  pub starts_fit : {room : ℕ} → at starts n ≤ room → Starts n starts room
-  starts_fit h = record { long = s.placed.long; up = s.placed.up; within = λ i k. let z = before s.placed i n k (le_refl n) in omega arith }
+    member_at : (k : ℕ) → k < length members → at members k ≡ at left (first + k)
+    member_at k l = get_or-take (last - first) _ k 0 (omega (arith, members_long)) ∙ get_or-drop first left k 0
 
-  -- the counters of the classes, cleared and then raised by each joint move
-  module _ {froms index owners : List ℕ} (is : Incoming n starts successors froms index owners) (total : ℕ) (e : total ≡ get_or starts n 0) (l cleared' : List ℕ)
-      (room : at starts n ≤ length l) (d : cleared' ≡ cleared l total) (m : List ℕ) (p : ℕ) (f : m ≡ tallied (kind starts classes owners) cleared' p)
-    where
-      long : length m ≡ length l
-      long = tally_length (kind starts classes owners) cleared' m p f ∙ filled_length (λ x. 0) l total cleared' d
+    pub some_few : (x : ℕ) → x ≡ count_by (λ x. not (eqb x 0)) members → x ≤ last
+    some_few x f = omega (arith, members_long, count_by-le-length (λ x. not (eqb x 0)) members)
 
-      counted : (c : ℕ) → c < total → at m c ≡ many p (λ q. eqb (kind starts classes owners q) c)
-      counted c h =
-          let x = filled_length (λ x. 0) l total cleared' d in
-          let y : at cleared' c ≡ 0 = ap (λ (l : List ℕ). at l c) d ∙ cleared_zero l total c (omega arith) h in
-          omega (arith, tally_at (kind starts classes owners) cleared' m p c f (omega arith))
+    pub some_waits : g.want ≡ false → (x : ℕ) → x ≡ count_by (λ x. not (eqb x 0)) members → x ≡ waits g left i
+    some_waits w x f =
+        f
+        ∙ ap (count_by (λ x. not (eqb x 0))) (sym (take_all (length members) members (le_refl _)))
+        ∙ some_of members (length members) (le_refl _)
+        ∙ many_cong (length members) _ _ (λ k l. ap (ltb 0) (member_at k l))
+        ∙ ap₂ (λ (n s : ℕ). many n (λ k. ltb 0 (at left (s + k)))) (members_long ∙ ap₂ ◌-◌ d e) e
+        ∙ sym (ap (λ (b : Bool). cond b 1 (many (moves_at g.board.joints.starts.now i) (λ k. ltb 0 (at left (at g.board.joints.starts.now i + k))))) w)
 
-      pub members_ask : (c : ℕ) → p < total → total < 65536 → c ≡ kind starts classes owners p → (c < length m) × (get_or m c 0 < 65535)
-      members_ask c h g o =
-          let z = kind_lt s is p (omega arith) in
-          (omega (arith, long), omega (arith, counted c (omega arith), many_le p (λ q. eqb (kind starts classes owners q) c)))
+-- the counters of the classes, cleared and then raised by each joint move
+module _ (g : Ground) (total : ℕ) (e : total ≡ joints g) (l front : List ℕ) (room : joints g ≤ length l) (d : front ≡ replicate (length (take total l)) 0)
+    (m : List ℕ) (p : ℕ) (f : m ≡ tallied (class_of g) (front ++ drop total l) p)
+  where
+    front_long : length front ≡ total
+    front_long = ap length d ∙ length-replicate (length (take total l)) 0 ∙ length-take-le total l (omega arith)
 
-      pub members_all : p ≤ total → total ≤ p → (c : ℕ) → c < at starts n → at m c ≡ many (at starts n) (λ p. eqb (kind starts classes owners p) c)
-      members_all h g c k = let z : p ≡ at starts n = omega arith in counted c (omega arith) ∙ ap (λ (p : ℕ). many p (λ q. eqb (kind starts classes owners q) c)) z
+    long : length m ≡ length l
+    long =
+        let z = length-append front (drop total l) in
+        let y = length-drop total l in
+        omega (arith, tally_length (class_of g) (front ++ drop total l) m p f, front_long)
+
+    cleared : (c : ℕ) → c < total → at (front ++ drop total l) c ≡ 0
+    cleared c h =
+        get_or_append_left front (drop total l) 0 c (omega (arith, front_long))
+        ∙ ap (λ (x : List ℕ). at x c) d
+        ∙ get_or-replicate (length (take total l)) c 0 0 (omega (arith, length-take-le total l (omega arith)))
+
+    counted : (c : ℕ) → c < total → at m c ≡ many p (λ q. eqb (class_of g q) c)
+    counted c h =
+        let z = length-append front (drop total l) in
+        let y = length-drop total l in
+        omega (arith, tally_at (class_of g) (front ++ drop total l) m p c f (omega (arith, front_long)), cleared c h)
+
+    pub members_ask : (c : ℕ) → p < total → total < 65536 → c ≡ class_of g p → (c < length m) × (get_or m c 0 < 65535)
+    members_ask c h k o =
+        let z = kind_lt g.board.tables g.leads p (omega arith) in
+        (omega (arith, long), omega (arith, counted c (omega arith), many_le p (λ q. eqb (class_of g q) c)))
+
+    pub members_all : p ≤ total → total ≤ p → (c : ℕ) → c < joints g → at m c ≡ many (joints g) (λ p. eqb (class_of g p) c)
+    members_all h k c o = let z : p ≡ joints g = omega arith in counted c (omega arith) ∙ ap (λ (p : ℕ). many p (λ q. eqb (class_of g q) c)) z

@@ -18,7 +18,7 @@ use Rattle.atl.specs.Marking.{unset, counted, recount, swept}
 use Rattle.atl.proofs.Bounded.{some_intro, some_elim, length_tabulate, get_d_tabulate}
 use Rattle.atl.proofs.Spread as spread
 use Rattle.incoming.specs.Index.{at}
-use Rattle.incoming.specs.Owners.{Incoming}
+use Rattle.incoming.specs.Owners.{IsIncoming}
 use Rattle.incoming.proofs.Counting.{many_cong}
 use Rattle.marking.specs.Table.{in_tables, Tables}
 use Rattle.marking.specs.Rule.{rule}
@@ -58,7 +58,7 @@ at_most x r t f g = go (dec_lt x r) (ℕ_discrete x r)
     go (no l) (yes q) = rw (le-ltb x r (omega arith), f q, le-leb x r (omega arith))
     go (no l) (no q) = rw (le-ltb x r (omega arith), unless_true t (λ e. q (g e)), lt-leb x r (omega arith))
 
-module _ {n : ℕ} {starts successors classes froms index owners : List ℕ} (s : Tables n starts successors classes) (is : Incoming n starts successors froms index owners)
+module _ {n : ℕ} {starts successors classes froms index owners : List ℕ} (s : Tables n starts successors classes) (is : IsIncoming n starts successors froms index owners)
     (few : n ≤ 1024) (want : Bool) (a b : States)
   where
     -- the game in the tables, and its joint moves in one line
