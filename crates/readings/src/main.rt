@@ -2,10 +2,6 @@
 // In the stream a sheet stands behind its length, two bytes, low byte first.
 #![tactic(auto)]
 
-ghost use Rattle.std.specs.Prelude.{◌+◌, ◌≤◌, ◌<◌, length};
-
-use sheet::Answer;
-
 fn show(word: &[u8], a: u64, b: u64) {
     io::write_all(1, word);
     io::print_decimal(1, a);
@@ -14,47 +10,34 @@ fn show(word: &[u8], a: u64, b: u64) {
     io::write_all(1, b"\n");
 }
 
-fn wide(x: u8) -> u64 {
-    x as u64
-}
-
-fn show_answer(s: &[u8]) {
-    let answer = sheet::read(s);
-    match answer {
-        Answer::Accepted(y) => show(b"ok ", y.rules as u64, wide(y.nodes)),
-        Answer::Refused(f, k) => show(b"no ", wide(sheet::number(f)), k as u64),
+fn show_reading(s: &[u8]) {
+    match sheet::read(s) {
+        Ok(layout) => show(b"ok ", layout.rules as u64, u64::from(layout.nodes)),
+        Err(refused) => show(
+            b"no ",
+            u64::from(u8::from(refused.fault)),
+            refused.place as u64,
+        ),
     }
 }
 
-// Where the sheet behind the length at an offset ends; past the stream where it is cut.
-fn end_of(s: &[u8], at: usize) -> usize
-    requires { (at < length s.now) × (length s.now ≤ 65536) }
-    ensures { at + 2 ≤ result }
-{
-    if at + 2 <= s.len() {
-        return at + 2 + sheet::wide(s[at]) + 256 * sheet::wide(s[at + 1]);
-    }
-    at + 2
-}
-
-fn each(s: &[u8])
-    requires { length s.now ≤ 65536 }
-{
-    let mut at: usize = 0;
-    while at < s.len() {
-        let end = end_of(s, at);
-        if s.len() < end {
+// Each sheet up to the first that is cut.
+fn each(mut stream: &[u8]) {
+    while let &[low, high, ref rest @ ..] = stream {
+        let n = usize::from(u16::from_le_bytes([low, high]));
+        if rest.len() < n {
             return;
         }
-        show_answer(&s[at + 2..end]);
-        at = end;
+        let (s, later) = rest.split_at(n);
+        show_reading(s);
+        stream = later;
     }
 }
 
 fn main() {
     let mut stream = [0u8; 65536];
     let n = io::read_full(0, &mut stream);
-    if n <= 65536 {
-        each(&stream[..n]);
+    if let Some(sheets) = stream.get(..n) {
+        each(sheets);
     }
 }

@@ -1,9 +1,6 @@
--- `readings::each` meets its contract: the invariant bounds the stream, and each turn passes at least two bytes.
-use Rattle.std.proofs.Common.{length, ◌-◌, ◌≤◌}
+-- `readings::each` meets its contract: each turn takes at least two bytes off the stream.
+use Rattle.std.proofs.Common.{length}
 use Rattle.readings.proofs.each.Given as goal
 
-abbrev pub invariant-loop-at : goal.invariant-loop-at
-invariant-loop-at l = length l.s ≤ 65536
-
-abbrev pub decreases-loop-at : goal.decreases-loop-at
-decreases-loop-at l = length l.s - l.at
+abbrev pub decreases-loop-stream : goal.decreases-loop-stream
+decreases-loop-stream l = length l.stream
