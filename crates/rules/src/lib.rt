@@ -15,7 +15,7 @@ use sheet::record::{Body, Part, Rule, Rules};
 use sheet::{MOST_MOVES, MOST_ROLES};
 
 // What literals are read off: the facts and the views that hold, and each role's move.
-#[derive(Clone, Copy)]
+#[derive(Clone, Copy, Default)]
 pub struct Look {
     pub facts: FactSet,
     pub views: FactSet,
@@ -154,7 +154,7 @@ pub fn gather(rules: Rules, q: Ask, k: Look, start: FactSet) -> FactSet
 pub fn is_terminal(rules: Rules, k: Look) -> bool
     ensures { result ≡ is_terminal (rules_of rules.entry) k }
 {
-    gather(rules, Ask::Terminal, k, FactSet::of(0)).number() != 0
+    gather(rules, Ask::Terminal, k, FactSet::default()) != FactSet::default()
 }
 
 // Has the role the goal value?
@@ -162,7 +162,7 @@ pub fn is_terminal(rules: Rules, k: Look) -> bool
 pub fn is_goal(rules: Rules, k: Look, role: u8, value: u8) -> bool
     ensures { result ≡ is_goal (rules_of rules.entry) k role value }
 {
-    gather(rules, Ask::Goal(role, value), k, FactSet::of(0)).number() != 0
+    gather(rules, Ask::Goal(role, value), k, FactSet::default()) != FactSet::default()
 }
 
 // State 0.
@@ -170,13 +170,7 @@ pub fn is_goal(rules: Rules, k: Look, role: u8, value: u8) -> bool
 pub fn init_facts(rules: Rules) -> FactSet
     ensures { result.bits ≡ init_facts (rules_of rules.entry) }
 {
-    let empty = FactSet::of(0);
-    let nothing = Look {
-        facts: empty,
-        views: empty,
-        moves: [0; 4],
-    };
-    gather(rules, Ask::Init, nothing, empty)
+    gather(rules, Ask::Init, Look::default(), FactSet::default())
 }
 
 // ---- moves
@@ -209,7 +203,7 @@ pub fn does_in(body: Body, role: u8, start: FactSet) -> FactSet
 pub fn does_set(rules: Rules, role: u8) -> FactSet
     ensures { result.bits ≡ does_set role (rules_of rules.entry) 0 }
 {
-    let mut x = FactSet::of(0);
+    let mut x = FactSet::default();
     for rule in rules {
         x = does_in(rule.body, role, x);
     }
@@ -221,5 +215,5 @@ pub fn does_set(rules: Rules, role: u8) -> FactSet
 pub fn role_moves(rules: Rules, role: u8) -> u16
     ensures { result ≡ does_set role (rules_of rules.entry) 0 }
 {
-    does_set(rules, role).number() as u16
+    u64::from(does_set(rules, role)) as u16
 }

@@ -63,7 +63,7 @@ pub fn row_of(rules: Rules, v: u8) -> FactSet
     requires { v < 64 }
     ensures { result.bits ≡ row 64 (view_rules (rules_of rules.entry)) v }
 {
-    let mut x = FactSet::of(0).with(v);
+    let mut x = FactSet::default().with(v);
     for rule in rules {
         x = rule_row(rule, v, x);
     }
@@ -75,7 +75,7 @@ pub fn rows_of(rules: Rules, q: &mut [u64; 64])
     ensures { q.new ≡ rows 64 (view_rules (rules_of rules.entry)) }
 {
     for v in 0..MOST_VIEWS {
-        q[usize::from(v)] = row_of(rules, v).number();
+        q[usize::from(v)] = u64::from(row_of(rules, v));
     }
 }
 
@@ -116,7 +116,7 @@ pub fn closure(q: &mut [u64; 64])
 pub fn mask_of(q: &[u64; 64], c: u32) -> FactSet
     ensures { result.bits ≡ mask_at q.now c }
 {
-    let mut x = FactSet::of(0);
+    let mut x = FactSet::default();
     for v in 0..MOST_VIEWS {
         if q[usize::from(v)].count_ones() == c {
             x = x.with(v);
@@ -130,7 +130,7 @@ pub fn masks_of(q: &[u64; 64], t: &mut [u64; 64])
     ensures { t.new ≡ listed (mask_at q.now) 64 1 }
 {
     for i in 0..MOST_VIEWS {
-        t[usize::from(i)] = mask_of(q, u32::from(i) + 1).number();
+        t[usize::from(i)] = u64::from(mask_of(q, u32::from(i) + 1));
     }
 }
 
@@ -141,7 +141,7 @@ pub fn masks_of(q: &[u64; 64], t: &mut [u64; 64])
 fn leads(q: &[u64; 64], v: u8, w: u8) -> bool
     ensures { result ≡ has (get_or q.now v 0) w }
 {
-    v < MOST_VIEWS && FactSet::of(q[usize::from(v)]).has(w)
+    v < MOST_VIEWS && FactSet::from(q[usize::from(v)]).has(w)
 }
 
 // Is the literal a NOT of a view that leads to v?
