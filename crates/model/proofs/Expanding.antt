@@ -27,7 +27,7 @@ use Rattle.model.specs.Answers.{Accepts}
 use Rattle.model.specs.Growing.{Numbered, Stage}
 use Rattle.model.proofs.Holding.{holds_take, holds_entry, holds_more, holds_counted}
 
-module _ (R : Rules) (seen : ℕ → ℕ) (limit joints : ℕ) {k : ℕ} {g : Growing} (stage : Stage R seen limit joints k g) (h : k < g.found) (x m : ℕ) (x_is : x ≡ get_or g.states.now k 0) (m_is : m ≡ length (moves R x)) where
+module _ {R : Rules} {seen : ℕ → ℕ} {limit joints k : ℕ} {g : Growing} (stage : Stage R seen limit joints k g) (h : k < g.found) {x m : ℕ} (x_is : x ≡ get_or g.states.now k 0) (m_is : m ≡ length (moves R x)) where
   here : k < length (found R k)
   here = omega (arith, stage.numbered.holds.count)
 
@@ -117,8 +117,8 @@ module _ (R : Rules) (seen : ℕ → ℕ) (limit joints : ℕ) {k : ℕ} {g : Gr
         })
 
 -- the end: no state is left
-pub done : (R : Rules) (seen : ℕ → ℕ) (limit joints : ℕ) {k : ℕ} {g : Growing} → Stage R seen limit joints k g → g.found ≤ k → Accepts R seen limit joints g.found g.listed g.states.now g.starts.now g.successors.now g.counts.now g.views.now
-done R seen limit joints {k} stage b =
+pub done : {R : Rules} {seen : ℕ → ℕ} {limit joints k : ℕ} {g : Growing} → Stage R seen limit joints k g → g.found ≤ k → Accepts R seen limit joints g.found g.listed g.states.now g.starts.now g.successors.now g.counts.now g.views.now
+done {R} {seen} {limit} {joints} {k} stage b =
     let all_of : length (found R k) ≤ k = omega (arith, stage.numbered.holds.count) in
     let whole = take_all k (found R k) all_of in
     record {

@@ -1,8 +1,7 @@
 -- The targets of a state are listed, one after the other.
 use Prim.Native.Nat.{ℕ, ◌+◌, ◌≤◌, ◌<◌}
 use mathlib.Core.Path.{◌≡◌, sym, ap, ◌∙◌, subst}
-use mathlib.Core.List.{List, [], ◌∷◌, ◌++◌, append_assoc, append-nil}
-use native.Mathlib.Nat.{add-zero}
+use mathlib.Core.List.{List, [], ◌∷◌, ◌++◌, append_assoc}
 use native.Mathlib.Numerals.{add-one}
 use native.Mathlib.Omega.{arith}
 use lib.ListN.{length, get_or, take, drop, set, length-append, take-append-drop}
@@ -25,13 +24,6 @@ pub record Going (limit joints : ℕ) (l z : List ℕ) (at : ℕ) (ts : List ℕ
   pub listed : g.listed ≡ at + j
 
 module _ {limit joints : ℕ} {l z : List ℕ} {at : ℕ} where
-  pub going_none : {g : Growing} (ts : List ℕ) → Numbered limit l g → Holds joints g.successors.now g.listed z → g.listed ≡ at → Going limit joints l z at ts 0 g
-  going_none ts n h e = record {
-    numbered = n;
-    successors_hold = rw (append-nil z) h;
-    listed = rw (add-zero at) e;
-  }
-
   module _ (m : ℕ) (f : ℕ → ℕ) {j t : ℕ} {g : Growing} (going : Going limit joints l z at (tabulate m f) j g) (is : t ≡ f j) (b : j < m) where
     abbrev ts : List ℕ
     ts = tabulate m f

@@ -10,14 +10,11 @@ ghost use Rattle.keys.specs.Keys.{keys_in, Filing, Remembers};
 ghost use Rattle.offer.specs.Offer.{role_limit, Whole, Ready, Serves, joints_of, role_of, target_of};
 ghost use Rattle.model.specs.Tables.{Holds, Clean};
 
-use crate::{Built, Refusal};
+use crate::{Built, ROLE_LIMIT, Refusal};
 use keys::{GIFT_ROOM, Keys, Memo};
 use lookup::Tree;
 use offer::{Offer, Study, Targets};
 use tables::{MOVE_LIMIT, STATE_LIMIT};
-
-// The most roles that a sheet may have: the counts of a position stand in as many entries.
-const ROLE_LIMIT: usize = 4;
 
 // The five lent tables of a model, the tree in which its states are found, and how many states are found and joint moves listed.
 #[derive(Drop)]

@@ -18,6 +18,9 @@ use lookup::Tree;
 use offer::{Study, initial};
 use sheet::Layout;
 
+// The most roles that a sheet may have: the counts of a position stand in as many entries.
+pub const ROLE_LIMIT: usize = 4;
+
 // Why there is no model, and which state was being expanded.
 #[derive(Clone, Copy)]
 pub enum Refusal {

@@ -1,8 +1,6 @@
 -- `model::growing::Growing::expand` meets its contract: the three refusals in their order, or one state more is expanded.
 use native.Mathlib.Omega.{arith}
 use mathlib.Core.Path.{refl, ap}
-use Rattle.sheet.specs.Reading.{sheet_in}
-use Rattle.tables.specs.Lengths.{state_limit, move_limit}
 use Rattle.offer.proofs.Right.{few_roles}
 use Rattle.offer.proofs.Laws.{gather_asks, gathered_serves}
 use Rattle.model.proofs.Holding.{holds_length, holds_clean}
@@ -10,15 +8,15 @@ use Rattle.model.proofs.Answering.{lacks_choice, too_many_moves, expanded}
 use Rattle.model.proofs.growing.Growing.expand.Goals as goal
 
 pub joint_count-m-requires : goal.joint_count-m-requires
-joint_count-m-requires c = few_roles (sheet_in c.args.study.s.now c.args.study.y) c.requires.ready.whole.fits
+joint_count-m-requires c = few_roles _ c.requires.ready.whole.fits
 
 pub returns-then-m-eq0-clause-expanded : goal.returns-then-m-eq0-clause-expanded
 returns-then-m-eq0-clause-expanded c =
-    lacks_choice (sheet_in c.args.study.s.now c.args.study.y) c.requires.ready.whole.fits state_limit move_limit c.requires.stage c.requires.inside refl c.offer_at-offer.ensures c.joint_count-m.ensures c.if-m-eq0.true
+    lacks_choice c.requires.ready c.requires.stage c.requires.inside refl c.offer_at-offer.ensures c.joint_count-m.ensures c.if-m-eq0.true
 
 pub returns-then-self-m-clause-expanded : goal.returns-then-self-m-clause-expanded
 returns-then-self-m-clause-expanded c =
-    too_many_moves (sheet_in c.args.study.s.now c.args.study.y) c.requires.ready.whole.fits state_limit move_limit c.requires.stage c.requires.inside refl c.offer_at-offer.ensures c.joint_count-m.ensures c.if-m-eq0.false c.if-self-m.true
+    too_many_moves c.requires.ready c.requires.stage c.requires.inside refl c.offer_at-offer.ensures c.joint_count-m.ensures c.if-m-eq0.false c.if-self-m.true
 
 pub note_counts-requires : goal.note_counts-requires
 note_counts-requires c =
@@ -43,5 +41,5 @@ pub returns-clause-expanded : goal.returns-clause-expanded
 returns-clause-expanded c =
     let after = c.list_targets.ensures in
     rw c.ok_or.ensures.value
-    (expanded (sheet_in c.args.study.s.now c.args.study.y) c.requires.ready.whole.fits state_limit move_limit c.requires.stage c.requires.inside refl c.offer_at-offer.ensures c.joint_count-m.ensures
+    (expanded c.requires.ready c.requires.stage c.requires.inside refl c.offer_at-offer.ensures c.joint_count-m.ensures
     c.if-m-eq0.false c.if-self-m.false _ _ after.listed c.number.ensures (rw after.rows.counts c.note_counts.ensures) (ap (λ t. t.now) after.rows.starts) (ap (λ t. t.now) after.rows.views))
