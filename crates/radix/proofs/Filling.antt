@@ -1,6 +1,6 @@
 -- What the loops over the joint moves and the positions come to.
 use mathlib.Core.Path.{◌≡◌, refl, sym, ap, ap₂, ◌∙◌}
-use mathlib.Core.List.{List, ◌++◌}
+use mathlib.Core.List.{List, [], ◌∷◌, ◌++◌}
 use Prim.Native.Nat.{ℕ, zero, suc, ◌+◌, ◌-◌, ◌*◌, ◌≤◌, ◌<◌}
 use native.Mathlib.Nat.{add-zero, zero-add, le_refl, not-suc-le-zero}
 use native.Mathlib.Decide.{ℕ_discrete, dec_lt}
@@ -12,8 +12,9 @@ use borrow.Rule.Slice.PartMut.{put_mid}
 use Rattle.std.proofs.lemmas.List.{get_or-replicate, get_or-take, get_or-drop, get_or_append_left, get_or-append_right}
 use Rattle.atl.specs.Bounded.{tabulate}
 use Rattle.atl.proofs.Bounded.{length_tabulate, get_d_tabulate}
+use Rattle.facts.specs.Bits.{has}
 use Rattle.meaning.specs.Radix.{product}
-use Rattle.radix.specs.Classes.{row, class_of, moves_at, ranged, filled, classed, Starts, Counted}
+use Rattle.radix.specs.Classes.{row, rep, class_of, moves_at, ranged, filled, classed, Starts, Counted}
 
 -- one state's entries
 module _ (f : ℕ → ℕ) (first : ℕ) (l : List ℕ) where
@@ -116,6 +117,13 @@ module _ (f : ℕ → ℕ) (l : List ℕ) where
       let p : i < n = rw (length_ranged f 0 l n, d) at o in
       filled_at n i (omega arith) p ∙ sym (get_d_tabulate n f 0 i p))
 
+-- a part of a table filled
+pub put_part : (f : ℕ → ℕ) (a k : ℕ) (l ys : List ℕ) → a + k ≤ length l → ys ≡ filled f (take k (drop a l)) k → put_mid a k l ys ≡ ranged f a l k
+put_part f a k l ys h e =
+    let size : length (take k (drop a l)) ≡ k = omega (arith, length-take k (drop a l), length-drop a l) in
+    put_ranged a k l ys (filled_length f (take k (drop a l)) k ys e ∙ size) h
+    ∙ ranged_cong (λ j. get_or ys j 0) f a l k (λ j g. ap (λ (x : List ℕ). get_or x j 0) e ∙ filled_at f (take k (drop a l)) k j (omega arith) g)
+
 -- every entry of a list of one number is that number
 pub replicated : (k v : ℕ) (l : List ℕ) → l ≡ replicate k v → (j : ℕ) → j < length l → get_or l j 0 ≡ v
 replicated k v l e j h = ap (λ (x : List ℕ). get_or x j 0) e ∙ get_or-replicate k j v 0 (omega (arith, ap length e, length-replicate k v))
@@ -137,16 +145,20 @@ module _ (f : ℕ → ℕ) (l : List ℕ) (a : ℕ) where
       ∙ ranged_cong (λ j. get_or ys j 0) (λ j. f (a + j)) a m (b - a) y
       ∙ ap (λ (x : List ℕ). ranged (λ j. f (a + j)) a x (b - a)) e ∙ filled_further (b - a) ∙ ap (filled f l) z
 
+-- the counts of a position, in a part of the table of counts
+row_part : (counts : List ℕ) (i : ℕ) → row (take 4 (drop (4 * i) counts)) 0 ≡ row counts i
+row_part counts i =
+    ap₂ ◌∷◌ (at 0 (omega arith) ∙ ap (λ (x : ℕ). get_or counts x 0) (add-zero (4 * i)))
+    (ap₂ ◌∷◌ (at 1 (omega arith)) (ap₂ ◌∷◌ (at 2 (omega arith)) (ap (λ (x : ℕ). x ∷ []) (at 3 (omega arith)))))
+  where
+    at : (k : ℕ) → k < 4 → get_or (take 4 (drop (4 * i) counts)) k 0 ≡ get_or counts (4 * i + k) 0
+    at k h = get_or-take 4 (drop (4 * i) counts) k 0 h ∙ get_or-drop (4 * i) counts k 0
+
 -- all positions
 module _ (starts counts : List ℕ) (mask : ℕ) (l : List ℕ) where
   pub classed_none : l ≡ classed starts counts mask l 0
   unfolding classed
   classed_none = refl
-
-  pub classed_more : (i a b : ℕ) (m m' : List ℕ) → m ≡ classed starts counts mask l i → a ≡ get_or starts i 0 → b ≡ get_or starts (i + 1) 0
-      → m' ≡ ranged (class_of counts mask i) a m (b - a) → m' ≡ classed starts counts mask l (i + 1)
-  unfolding classed
-  classed_more i a b m m' e p q d = rw add-one (d ∙ rw (p, q, e))
 
   length_classed : (i : ℕ) → length (classed starts counts mask l i) ≡ length l
   unfolding classed
@@ -156,20 +168,36 @@ module _ (starts counts : List ℕ) (mask : ℕ) (l : List ℕ) where
   pub classed_length : (i : ℕ) (m : List ℕ) → m ≡ classed starts counts mask l i → length m ≡ length l
   classed_length i m e = ap length e ∙ length_classed i
 
+  -- a position's part of the table, and its counts
+  pub position_asks : (n : ℕ) → Starts n starts (length l) → Counted n starts counts → (i a b : ℕ) → i < n → a ≡ get_or starts i 0 → b ≡ get_or starts (i + 1) 0 → b < 65536
+      → (m cs : List ℕ) → m ≡ classed starts counts mask l i → cs ≡ take 4 (drop (4 * i) counts)
+      → (length cs ≡ 4) × (length (take (b - a) (drop a m)) ≡ product (row cs 0)) × (0 < length (take (b - a) (drop a m))) × (length (take (b - a) (drop a m)) ≤ 65535)
+  position_asks n s t i a b h p q u m cs e d =
+      let up = s.up i h in
+      let inside = t.inside in
+      let size : length (take (b - a) (drop a m)) ≡ b - a = omega (arith, length-take (b - a) (drop a m), length-drop a m, classed_length i m e, s.within i h) in
+      let all : b - a ≡ product (row counts i) = rw (p, q) (t.full i h) in (
+        omega (arith, ap length d, length-take 4 (drop (4 * i) counts), length-drop (4 * i) counts),
+        size ∙ all ∙ ap product (sym (ap (λ (x : List ℕ). row x 0) d ∙ row_part counts i)),
+        omega arith,
+        omega arith,
+      )
+
+  pub classed_more : (i a b : ℕ) (m ys cs : List ℕ) → m ≡ classed starts counts mask l i → a ≡ get_or starts i 0 → b ≡ get_or starts (i + 1) 0
+      → a < b → b ≤ length l → cs ≡ take 4 (drop (4 * i) counts)
+      → ys ≡ filled (class_of cs mask 0) (take (b - a) (drop a m)) (length (take (b - a) (drop a m)))
+      → put_mid a (b - a) m ys ≡ classed starts counts mask l (i + 1)
+  unfolding classed class_of
+  classed_more i a b m ys cs e p q h room t d = rw add-one (
+      let size : length (take (b - a) (drop a m)) ≡ b - a = omega (arith, length-take (b - a) (drop a m), length-drop a m, classed_length i m e) in
+      put_part (class_of counts mask i) a (b - a) m ys (omega (arith, classed_length i m e))
+      (d ∙ ap (filled (class_of cs mask 0) (take (b - a) (drop a m))) size
+      ∙ ap (λ (r : List ℕ). filled (rep r (has mask)) (take (b - a) (drop a m)) (b - a)) (ap (λ (x : List ℕ). row x 0) t ∙ row_part counts i))
+      ∙ rw (p, q, e) refl
+      )
+
   pub classed_all : (i n : ℕ) (m : List ℕ) → i ≤ n → n ≤ i → m ≡ classed starts counts mask l i → m ≡ classed starts counts mask l n
   classed_all i n m h g e = let z : i ≡ n = omega arith in e ∙ ap (classed starts counts mask l) z
-
-  pub position_asks : (n : ℕ) → Starts n starts (length l) → Counted n starts counts → (i : ℕ) → i < n → (a b : ℕ) (m : List ℕ) → a ≡ get_or starts i 0 → b ≡ get_or starts (i + 1) 0 → b ≤ 65535
-      → m ≡ classed starts counts mask l i → (4 * i + 3 < length counts) × (b - a ≡ product (row counts i)) × (0 < b - a) × (b - a ≤ 65535) × (a + (b - a) ≤ length m)
-  position_asks n s t i h a b m p q u e =
-      let up = s.up i h in
-      let inside = t.inside in (
-        omega arith,
-        rw (p, q) (t.full i h),
-        omega arith,
-        omega arith,
-        omega (arith, s.within i h, classed_length i m e),
-      )
 
   -- what the table holds
   module _ (n : ℕ) (s : Starts n starts (length l)) where

@@ -26,9 +26,9 @@ unfoldable pub ranged : (ℕ → ℕ) → ℕ → List ℕ → ℕ → List ℕ
 ranged f first l zero = l
 ranged f first l (suc j) = set (ranged f first l j) (first + j) (f j)
 
--- the first w entries from place `first` on, repeated, each time `add` higher
-unfoldable pub repeated : List ℕ → ℕ → ℕ → ℕ → ℕ → ℕ
-repeated l first w add j = get_or l (first + j % w) 0 + j / w * add
+-- the first w entries, repeated, each time `add` higher
+unfoldable pub repeated : List ℕ → ℕ → ℕ → ℕ → ℕ
+repeated l w add j = get_or l (j % w) 0 + j / w * add
 
 -- the first k entries filled by f
 abbrev pub filled : (ℕ → ℕ) → List ℕ → ℕ → List ℕ
@@ -57,10 +57,8 @@ pub record Counted (n : ℕ) (starts counts : List ℕ) : Type 0 where
   pub inside : 4 * n ≤ length counts
   pub full : (i : ℕ) → i < n → moves_at starts i ≡ product (row counts i)
 
--- What repeating the first w entries up to entry `end` asks: room, and that each number fits its place.
-pub record Repeats (l : List ℕ) (first w end add : ℕ) : Type 0 where
+-- What repeating the first w entries to the end asks: that there are some, and that each number fits its place.
+pub record Repeats (l : List ℕ) (w add : ℕ) : Type 0 where
   pub some : 0 < w
-  pub up : w ≤ end
-  pub small : end ≤ 65535
-  pub room : first + end ≤ length l
-  pub fits : (j : ℕ) → j < end → repeated l first w add j ≤ 65535
+  pub up : w ≤ length l
+  pub fits : (j : ℕ) → j < length l → repeated l w add j ≤ 65535

@@ -5,7 +5,7 @@
 ghost use Rattle.std.specs.Prelude.{◌≡◌, cond, ◌+◌, ◌*◌, ◌<◌, ◌≤◌, get_or, length};
 ghost use Rattle.facts.specs.Bits.{has};
 ghost use Rattle.meaning.specs.Radix.{product};
-ghost use Rattle.radix.specs.Classes.{row, class_of, ranged, repeated, classed, Starts, Counted, Repeats};
+ghost use Rattle.radix.specs.Classes.{row, class_of, filled, repeated, classed, Starts, Counted, Repeats};
 
 use std::ops::Range;
 
@@ -30,7 +30,7 @@ impl<'a> Joints<'a> {
 pub fn wide(x: u16) -> usize
     ensures { result ≡ x }
 {
-    x as usize
+    usize::from(x)
 }
 
 // What each further choice of role `r` adds to the class: its weight, and nothing outside the coalition.
@@ -41,48 +41,29 @@ fn rise(mask: u8, r: u8, w: usize) -> u16
     if (mask >> r) % 2 == 1 { w as u16 } else { 0 }
 }
 
-// Role `r` joins: the first `w` entries from place `first` on are repeated up to entry `end`, each time higher by the role's rise.
-fn grow(mask: u8, r: u8, first: usize, w: usize, end: usize, classes: &mut [u16])
-    requires { (r < 8) × Repeats classes.old first w end (cond (has mask r) w 0) }
-    ensures { classes.new ≡ ranged (repeated classes.old first w (cond (has mask r) w 0)) first classes.old end }
+// The first `w` classes are repeated to the end, each time higher by `add`.
+fn grow(add: u16, w: usize, classes: &mut [u16])
+    requires { Repeats classes.old w add }
+    ensures { classes.new ≡ filled (repeated classes.old w add) classes.old (length classes.old) }
 {
-    let add = rise(mask, r, w);
-    let mut e = w;
-    while e < end {
-        let before = classes[first + e - w];
-        classes[first + e] = before + add;
-        e += 1;
+    for e in w..classes.len() {
+        classes[e] = classes[e - w] + add;
     }
 }
 
-// The weight of the next slower role: the count at place `k` times the weight `w`.
-fn weight(counts: &[u16], k: usize, w: usize) -> usize
-    requires { (k < length counts.now) × (get_or counts.now k 0 * w ≤ 65535) }
-    ensures { result ≡ get_or counts.now k 0 * w }
+// The classes of the joint moves of a position, by its roles' counts of choices: grown role by role, the fastest first.
+fn fill_position(counts: &[u16], mask: u8, classes: &mut [u16])
+    requires { (length counts.now ≡ 4) × (length classes.old ≡ product (row counts.now 0)) × (0 < length classes.old) × (length classes.old ≤ 65535) }
+    ensures { classes.new ≡ filled (class_of counts.now mask 0) classes.old (length classes.old) }
 {
-    wide(counts[k]) * w
-}
-
-// The classes of the joint moves of position `i`, from place `first` on: grown role by role, the fastest first.
-fn fill_position(
-    counts: &[u16],
-    i: usize,
-    mask: u8,
-    first: usize,
-    count: usize,
-    classes: &mut [u16],
-)
-    requires { (4 * i + 3 < length counts.now) × (count ≡ product (row counts.now i)) × (0 < count) × (count ≤ 65535) × (first + count ≤ length classes.old) }
-    ensures { classes.new ≡ ranged (class_of counts.now mask i) first classes.old count }
-{
-    let w2 = weight(counts, 4 * i + 3, 1);
-    let w1 = weight(counts, 4 * i + 2, w2);
-    let w0 = weight(counts, 4 * i + 1, w1);
-    classes[first] = 0;
-    grow(mask, 3, first, 1, w2, classes);
-    grow(mask, 2, first, w2, w1, classes);
-    grow(mask, 1, first, w1, w0, classes);
-    grow(mask, 0, first, w0, count, classes);
+    let mut w = 1;
+    classes[0] = 0;
+    for r in (0..4).rev() {
+        let add = rise(mask, r, w);
+        let end = usize::from(counts[usize::from(r)]) * w;
+        grow(add, w, &mut classes[..end]);
+        w = end;
+    }
 }
 
 // The classes of all joint moves, position by position.
@@ -90,11 +71,9 @@ pub fn fill_classes(n: usize, starts: &[u16], counts: &[u16], mask: u8, classes:
     requires { Starts n starts.now (length classes.old) × Counted n starts.now counts.now }
     ensures { classes.new ≡ classed starts.now counts.now mask classes.old n }
 {
-    let mut i = 0;
-    while i < n {
-        let first = wide(starts[i]);
-        let last = wide(starts[i + 1]);
-        fill_position(counts, i, mask, first, last - first, classes);
-        i += 1;
+    for i in 0..n {
+        let first = usize::from(starts[i]);
+        let last = usize::from(starts[i + 1]);
+        fill_position(&counts[4 * i..4 * i + 4], mask, &mut classes[first..last]);
     }
 }

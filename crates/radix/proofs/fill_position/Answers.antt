@@ -1,100 +1,70 @@
--- `radix::fill_position`: four steps, the fastest role first, make the classes.
+-- `radix::fill_position`: roles r and on have joined.
 use native.Mathlib.Omega.{arith}
-use mathlib.Core.Path.{refl}
-use Rattle.radix.proofs.Growing.{weights, step3, step2, step1, step0}
-use borrow.Author.Rules.{rules}
+use mathlib.Core.Path.{◌≡◌, ap, sym, ◌∙◌}
+use Prim.Native.Nat.{ℕ, ◌*◌}
+use lib.ListN.{get_or, length-take}
+use Rattle.facts.specs.Bits.{has}
+use Rattle.radix.specs.Classes.{row, rep, class_of, filled}
+use Rattle.radix.proofs.Growing.{joined_none, joined_low, joined_all, turn_in, turn_asks, turn_gives}
 use Rattle.radix.proofs.fill_position.Goals as goal
 
-pub weight-w2-requires : goal.weight-w2-requires
-weight-w2-requires c =
-    let args = c.args in
-    let pre = c.requires in
-    let w = weights args.counts.now args.i args.count _ _ _ pre.1 pre.2 refl refl refl in
-    (search rules, omega (arith, w.up2, w.up1, w.up0))
+pub loop-r-init : goal.loop-r-init
+loop-r-init c = joined_none (row c.args.counts.now 0) c.args.mask c.args.classes.now
 
-pub weight-w1-requires : goal.weight-w1-requires
-weight-w1-requires c =
-    let args = c.args in
-    let pre = c.requires in
-    let weight = c.weight-w2 in
-    let w = weights args.counts.now args.i args.count _ _ _ pre.1 pre.2 weight.ensures refl refl in
-    (search rules, omega (arith, w.up1, w.up0))
+pub rise-add-requires : goal.rise-add-requires
+rise-add-requires c =
+    let loop = c.loop-r in
+    let low = joined_low (row c.args.counts.now 0) c.args.mask c.args.classes.now loop.r loop.w loop.classes (let z = c.requires in omega arith) loop.invariant in
+    (omega (arith, loop.auto.r), omega (arith, c.requires))
 
-pub weight-w0-requires : goal.weight-w0-requires
-weight-w0-requires c =
+pub overflow_mul-end : goal.overflow_mul-end
+overflow_mul-end c =
     let args = c.args in
     let pre = c.requires in
-    let weight = c.weight-w2 in
-    let weight2 = c.weight-w1 in
-    let w = weights args.counts.now args.i args.count _ _ _ pre.1 pre.2 weight.ensures weight2.ensures refl in
-    (search rules, omega (arith, w.up0))
+    let loop = c.loop-r in
+    let within = turn_in args.counts.now args.mask args.classes.now pre.1 pre.2 pre.3 loop.r loop.w c.from-in-loop-r.result loop.classes c.loop-r-test.true loop.auto.r
+    loop.invariant (c.from-in-loop-r.ensures ∙ ap (λ (y : ℕ). get_or args.counts.now y 0) c.from.ensures) in
+    omega (arith, pre.3)
+
+pub slice_bounds-grow-end : goal.slice_bounds-grow-end
+slice_bounds-grow-end c =
+    let args = c.args in
+    let pre = c.requires in
+    let loop = c.loop-r in
+    (turn_in args.counts.now args.mask args.classes.now pre.1 pre.2 pre.3 loop.r loop.w c.from-in-loop-r.result loop.classes c.loop-r-test.true loop.auto.r
+    loop.invariant (c.from-in-loop-r.ensures ∙ ap (λ (y : ℕ). get_or args.counts.now y 0) c.from.ensures)).1
+
+pub slice_bounds-grow-end-in-loop-r : goal.slice_bounds-grow-end-in-loop-r
+slice_bounds-grow-end-in-loop-r c =
+    let args = c.args in
+    let pre = c.requires in
+    let loop = c.loop-r in
+    let within = turn_in args.counts.now args.mask args.classes.now pre.1 pre.2 pre.3 loop.r loop.w c.from-in-loop-r.result loop.classes c.loop-r-test.true loop.auto.r
+    loop.invariant (c.from-in-loop-r.ensures ∙ ap (λ (y : ℕ). get_or args.counts.now y 0) c.from.ensures) in
+    omega (arith, length-take (c.from-in-loop-r.result * loop.w) loop.classes)
 
 pub grow-requires : goal.grow-requires
 grow-requires c =
     let args = c.args in
     let pre = c.requires in
-    let weight = c.weight-w2 in
-    let weight2 = c.weight-w1 in
-    let weight3 = c.weight-w0 in
-    let w = weights args.counts.now args.i args.count _ _ _ pre.1 pre.2 weight.ensures weight2.ensures weight3.ensures in
-    (search rules, (step3 args.counts.now args.mask args.i args.first args.count _ _ _ args.classes.now w pre.3 pre.4).0)
+    let loop = c.loop-r in
+    turn_asks args.counts.now args.mask args.classes.now pre.1 pre.2 pre.3 loop.r loop.w c.from-in-loop-r.result loop.classes c.loop-r-test.true loop.auto.r
+    loop.invariant (c.from-in-loop-r.ensures ∙ ap (λ (y : ℕ). get_or args.counts.now y 0) c.from.ensures) c.rise-add.result c.rise-add.ensures
 
-pub grow-requires-2 : goal.grow-requires-2
-grow-requires-2 c =
+pub loop-r-preserved : goal.loop-r-preserved
+loop-r-preserved c =
     let args = c.args in
     let pre = c.requires in
-    let weight = c.weight-w2 in
-    let weight2 = c.weight-w1 in
-    let weight3 = c.weight-w0 in
-    let w = weights args.counts.now args.i args.count _ _ _ pre.1 pre.2 weight.ensures weight2.ensures weight3.ensures in
-    let grow = c.grow in (
-      search rules,
-      (step2 args.counts.now args.mask args.i args.first args.count _ _ _ args.classes.now w pre.3 pre.4 _
-          grow.ensures).0,
-    )
-
-pub grow-requires-3 : goal.grow-requires-3
-grow-requires-3 c =
-    let args = c.args in
-    let pre = c.requires in
-    let weight = c.weight-w2 in
-    let weight2 = c.weight-w1 in
-    let weight3 = c.weight-w0 in
-    let w = weights args.counts.now args.i args.count _ _ _ pre.1 pre.2 weight.ensures weight2.ensures weight3.ensures in
-    let grow = c.grow in
-    let grow2 = c.grow-2 in (
-      search rules,
-      (step1 args.counts.now args.mask args.i args.first args.count _ _ _ args.classes.now w pre.3 pre.4 _
-          grow.ensures _ grow2.ensures).0,
-    )
-
-pub grow-requires-4 : goal.grow-requires-4
-grow-requires-4 c =
-    let args = c.args in
-    let pre = c.requires in
-    let weight = c.weight-w2 in
-    let weight2 = c.weight-w1 in
-    let weight3 = c.weight-w0 in
-    let w = weights args.counts.now args.i args.count _ _ _ pre.1 pre.2 weight.ensures weight2.ensures weight3.ensures in
-    let grow = c.grow in
-    let grow2 = c.grow-2 in
-    let grow3 = c.grow-3 in (
-      search rules,
-      (step0 args.counts.now args.mask args.i args.first args.count _ _ _ args.classes.now w pre.3 pre.4 _
-          grow.ensures _ grow2.ensures _ grow3.ensures).0,
-    )
+    let loop = c.loop-r in
+    turn_gives args.counts.now args.mask args.classes.now pre.1 pre.2 pre.3 loop.r loop.w c.from-in-loop-r.result loop.classes c.loop-r-test.true loop.auto.r
+    loop.invariant (c.from-in-loop-r.ensures ∙ ap (λ (y : ℕ). get_or args.counts.now y 0) c.from.ensures) c.rise-add.result c.rise-add.ensures
+    c.grow.new.classes c.grow.ensures
 
 pub returns : goal.returns
+unfolding class_of
 returns c =
     let args = c.args in
-    let pre = c.requires in
-    let weight = c.weight-w2 in
-    let weight2 = c.weight-w1 in
-    let weight3 = c.weight-w0 in
-    let w = weights args.counts.now args.i args.count _ _ _ pre.1 pre.2 weight.ensures weight2.ensures weight3.ensures in
-    let grow = c.grow in
-    let grow2 = c.grow-2 in
-    let grow3 = c.grow-3 in
-    let grow4 = c.grow-4 in
-    (step0 args.counts.now args.mask args.i args.first args.count _ _ _ args.classes.now w pre.3 pre.4 _ grow.ensures _
-    grow2.ensures _ grow3.ensures).1 _ grow4.ensures
+    let loop = c.loop-r in
+    let z : loop.r ≡ 0 = omega arith in
+    joined_all (row args.counts.now 0) args.mask args.classes.now loop.w loop.classes (rw z at loop.invariant)
+    ∙ ap (filled (rep (row args.counts.now 0) (has args.mask)) args.classes.now) (sym c.requires.1)
