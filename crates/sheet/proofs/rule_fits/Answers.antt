@@ -10,4 +10,6 @@ use Rattle.sheet.proofs.rule_fits.Goals as goal
 
 pub returns-then-head_fits : goal.returns-then-head_fits
 unfolding rule_fits
-returns-then-head_fits c = let all = all_from_yields_List (literal_fits c.args.z) _ _ _ c.all.ensures.ran (YieldsList-from_first (λ x. x) literals _ refl) (λ x b q k. search (rules, tests)) in all ∙ ap (λ (b : Bool). b && list_all (literal_fits c.args.z) (literals c.args.rule.body)) (sym c.if-head_fits.true ∙ c.head_fits.ensures)
+returns-then-head_fits c =
+    all_from_yields_List (literal_fits c.args.z) _ _ c.all.result c.all.ensures.ran (YieldsList-from_first (λ x. x) literals _ refl) (λ x b q k. search (rules, tests))
+    ∙ ap (λ (b : Bool). b && list_all (literal_fits c.args.z) (literals c.args.rule.body)) (sym c.if-head_fits.true ∙ c.head_fits.ensures)
