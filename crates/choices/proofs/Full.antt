@@ -8,11 +8,11 @@ use native.Mathlib.Omega.{arith}
 use lib.Dec.{eqb}
 use Rattle.std.specs.Prelude.{Some, slice_get}
 use lib.Pow.{pow_pos}
-use borrow.Author.Tests.{eqb-true, eq-eqb}
+use borrow.Author.Tests.{eqb-true, eq-eqb, ne_eqb}
 use Rattle.facts.specs.Bits.{bit, has}
 use Rattle.facts.specs.Laws.{bit_zero, bit_suc, one_shifted}
 use Rattle.choices.specs.Moves.{members, full}
-use Rattle.choices.specs.Nth.{rest, rest_all, here, pass}
+use Rattle.choices.specs.Nth.{rest, rest_all, rest_none, here, pass, skip}
 
 -- What the code computes.
 pub full_is : (n k : ℕ) → k < 16 → eqb ((n + 1) % (1 * 2 ^ (k + 1) % 2 ^ 32)) 0 ≡ full n k
@@ -49,3 +49,6 @@ module _ (n k : ℕ) (small : k < 16) (h : full n k ≡ true) where
 
   pub full_nth : Some k ≡ slice_get (members n) k
   full_nth = sym (ap (λ (l : List ℕ). slice_get l k) (rest_all n) ∙ from k 0 (omega arith))
+
+-- what a search for the k-th member goes by
+pub ruleset walk = (full_nth, rest_all, rest_none, here, pass, skip, eq-eqb, ne_eqb)

@@ -15,6 +15,7 @@ pub struct Choices {
 pub type Moves = [u16; 4];
 
 // How many choices a set has.
+#[tactic(auto, using(crate::specs::Laws::count_ones))]
 pub fn count(set: u16) -> u32
     ensures { result ≡ length (members set) }
 {
@@ -22,6 +23,7 @@ pub fn count(set: u16) -> u32
 }
 
 // The product of the roles' counts.
+#[tactic(auto, using(crate::specs::Laws::total_take, crate::specs::Laws::total_four, crate::specs::Laws::count_le), unfolding(crate::specs::Moves::total))]
 pub fn product(sets: &[u16]) -> u32
     requires { length sets.now ≤ 4 }
     ensures { result ≡ total sets.now }
@@ -34,6 +36,7 @@ pub fn product(sets: &[u16]) -> u32
 }
 
 // Does the set have 0 and all up to k?
+#[tactic(auto, using(crate::proofs::Full::full_is, crate::proofs::Full::divisor_pos))]
 pub fn is_full(set: u16, k: u32) -> bool
     requires { k < 16 }
     ensures { result ≡ full set k }
@@ -42,6 +45,7 @@ pub fn is_full(set: u16, k: u32) -> bool
 }
 
 // The k-th member of a set, counted from 0, ascending. Where nothing below it is left out it is k.
+#[tactic(auto, using(crate::proofs::Full::walk))]
 pub fn nth(set: u16, k: u32) -> Option<u16>
     ensures { result ≡ slice_get (members set) k }
 {
@@ -61,6 +65,7 @@ pub fn nth(set: u16, k: u32) -> Option<u16>
 }
 
 // How many members of a set are below m.
+#[tactic(auto, using(crate::specs::Encode::rank_low, crate::specs::Encode::rank_high, crate::specs::Encode::shift_pos))]
 pub fn below(set: u16, m: u16) -> u32
     ensures { result ≡ rank set m }
 {

@@ -18,7 +18,7 @@ use Rattle.codes.specs.Codes as codes
 use Rattle.codes.specs.Codes.{bits, sets_of, code_of, picked, Sound, AllSound}
 use Rattle.codes.specs.Table.{width, InSlot, Stand, Encoded}
 use Rattle.codes.specs.Laid.{written, laid, encoded, after}
-use Rattle.codes.proofs.Body.{code_length}
+use Rattle.codes.proofs.Body.{code_length, sets_length}
 
 -- ---- a run of stores: before it, behind it and in it
 pub sets_below : (vs l : List ℕ) (i j : ℕ) → j < i → get_or (sets l i vs) j 0 ≡ get_or l j 0
@@ -196,6 +196,9 @@ module _ (q : Ask) (r : Rule) where
         go : (t : Bool) → laid q (cond t (r ∷ picked q rs) (picked q rs)) code c ≡ laid q (picked q rs) (laid q (cond t (r ∷ []) []) code c) (c + length (cond t (r ∷ []) []))
         go true = refl
         go false = ap (laid q (picked q rs) code) (sym (add-zero c))
+
+-- what one rule does
+pub ruleset one_slot = (after_yes, after_no, encoded_from, encoded_no, sets_length)
 
 pub after_above : (q : Ask) (rs : List Rule) (c : ℕ) → c ≤ after q rs c
 after_above q rs c = omega (arith, after_is q rs c)

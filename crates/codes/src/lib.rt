@@ -40,6 +40,7 @@ pub fn place_of(p: Part) -> u8
 }
 
 // The literal into the set of its kind.
+#[tactic(auto, unfolding(crate::specs::Codes::noted))]
 pub fn note(w: &mut Sets, p: Part)
     requires { (1 ≤ p.kind) × (p.kind ≤ 5) × (place_of p < bits) }
     ensures { w.new ≡ noted p w.old }
@@ -49,6 +50,7 @@ pub fn note(w: &mut Sets, p: Part)
 }
 
 // The five sets of a body.
+#[tactic(auto, using(crate::proofs::Body::noting_start, crate::proofs::Body::noting_literal))]
 pub fn sets_of(body: Body) -> Sets
     requires { Sound (literals body) }
     ensures { result ≡ sets_of (literals body.entry) }
@@ -63,6 +65,7 @@ pub fn sets_of(body: Body) -> Sets
 // ---- one rule
 
 // Six numbers into slot c: five sets and a member.
+#[tactic(auto, using(crate::proofs::Laying::write_is))]
 pub fn write(w: Sets, m: u8, code: &mut [u64], c: usize)
     requires { (length w ≡ 5) × (width * c + width ≤ length code.old) }
     ensures { code.new ≡ written code.old c (w ++ (m ∷ [])) }
@@ -73,6 +76,7 @@ pub fn write(w: Sets, m: u8, code: &mut [u64], c: usize)
 }
 
 // The code of a rule into slot c, where the rule adds to the set that is asked for. The next free slot.
+#[tactic(auto, using(crate::proofs::Laying::one_slot))]
 pub fn encode_rule(rule: Rule, q: Ask, code: &mut [u64], c: usize) -> usize
     requires { Sound (literals rule.body) × (width * after q (rule_of rule ∷ []) c ≤ length code.old) }
     ensures slot { result ≡ after q (rule_of rule.entry ∷ []) c }
@@ -105,6 +109,7 @@ pub fn encode(rules: Rules, q: Ask, code: &mut [u64], from: usize) -> usize
 // ---- the views, level by level
 
 // The codes of the VIEW rules for the views in `only`. No rule is read where there are none.
+#[tactic(auto, using(crate::proofs::Levels::after_none, crate::proofs::Levels::encoded_none))]
 pub fn encode_level(rules: Rules, only: u64, code: &mut [u64], from: usize) -> usize
     requires { AllSound (rules_of rules) × (width * after (views_in only) (rules_of rules) from ≤ length code.old) }
     ensures slot { result ≡ after (views_in only) (rules_of rules.entry) from }

@@ -114,6 +114,7 @@ pub struct Stretch<'a> {
 
 impl<'a> Stretch<'a> {
     // Once over the slots, beginning with `start`.
+    #[tactic(auto, using(crate::proofs::Laws::collect_on))]
     pub fn collect(self, scene: Scene, start: u64) -> u64
         ensures { result ≡ collected (is_none scene.views) self.entry.code.now scene.facts (unwrap_or scene.views 0) scene.joint self.entry.from (self.entry.to - self.entry.from) start }
     {
@@ -149,6 +150,7 @@ impl<'a> Stretch<'a> {
 // ---- the views of a state
 
 // The views of level i, given those below. A level without rules adds nothing.
+#[tactic(auto, using(crate::proofs::Laws::settled_empty))]
 fn level_by(codes: &Codes, i: usize, facts: u64, only: u64, x: u64) -> u64
     requires { (3 + i < length codes.now.ends) × Level codes.now.code only (from_of codes.now.ends i) (to_of codes.now.ends i) }
     ensures { result ≡ settled_by codes.now.code facts (from_of codes.now.ends i) (to_of codes.now.ends i) x }

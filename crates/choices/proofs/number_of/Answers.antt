@@ -1,7 +1,7 @@
 -- `choices::number_of` meets its contract: what the roles that are left add to the number so far gives the whole number.
-use Rattle.std.proofs.Common.{rules, ◌≤◌, ◌≡◌, sym, ap, ap₂, ◌∙◌, arith, inl, inr, ℕ, ◌*◌, ◌<◌, List, ◌∷◌, length, drop, length-append}
+use Rattle.std.proofs.Common.{◌≤◌, ◌≡◌, sym, ap, ap₂, ◌∙◌, arith, inl, inr, ℕ, ◌*◌, ◌<◌, List, ◌∷◌, length, drop, length-append}
 use Rattle.choices.specs.Moves.{members, rank}
-use Rattle.choices.specs.Encode.{So, start, front, past, turn, end, product_fits, rank_le}
+use Rattle.choices.specs.Encode.{So, front, past, turn, end, product_fits, rank_le}
 use Rattle.choices.proofs.number_of.Goals as goal
 
 -- the product of a turn is small
@@ -9,9 +9,6 @@ small : (ss ms : List ℕ) (z p n s c : ℕ) (rest : List ℕ) → length ss ≤
 small ss ms z p n s c rest few so e f =
     let (h, x, t) = front ss p s rest e in
     product_fits ss ms z p n few h so c (f ∙ ap (λ (y : ℕ). length (members y)) x)
-
-pub loop-set-init : goal.loop-set-init
-loop-set-init c = record { so = start _ _; roles = search rules; moved = search rules }
 
 pub overflow_mul-n : goal.overflow_mul-n
 overflow_mul-n c =
