@@ -35,7 +35,7 @@ const ROLES: u8 = 4;
 const HALF: u64 = 0x100000000;
 
 // The rules, filed by the keys of the moves that they wait for: the keys in their tree, with their hints; each rule's home; the mask of each kind; how many keys there are, and
-// one more than the highest kind.
+// one more than the highest kind. No ghost field says that the keys can be found (`Findable`): the ways of a tree are data, and a ghost field holds facts alone.
 #[derive(Drop)]
 pub struct Keys {
     pub keys: [u64; KEY_ROOM],
@@ -94,13 +94,13 @@ fn own_moves(role: u8) -> u64
 fn kind_of(d: u64) -> u64
     ensures { result ≡ kind_of d }
 {
-    let mut kind = FactSet::of(0);
+    let mut kind = FactSet::default();
     for role in 0..ROLES {
         if own_moves(role) & d != 0 {
             kind = kind.with(role);
         }
     }
-    kind.number()
+    kind.bits
 }
 
 // All moves of the roles of a kind.
@@ -108,7 +108,7 @@ fn kind_of(d: u64) -> u64
 fn mask_of(kind: u64) -> u64
     ensures { result ≡ mask_of kind }
 {
-    let roles = FactSet::of(kind);
+    let roles = FactSet::from(kind);
     let mut x = 0;
     for role in 0..ROLES {
         if roles.has(role) {

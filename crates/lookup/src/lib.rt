@@ -28,7 +28,7 @@ fn fork_at(k: usize, x: u64, f: u8) -> usize
     requires { k < state_limit }
     ensures { result ≡ 2 * k + bit x f }
 {
-    2 * k + usize::from(FactSet::of(x).has(f))
+    2 * k + usize::from(FactSet::from(x).has(f))
 }
 
 // The lowest fact in which two numbers differ.
@@ -54,7 +54,8 @@ impl Tree {
     // The first link on the way of x that does not lead to a node with a test below d.
     fn spot(&self, x: u64, d: u8) -> usize
         requires { (n : ℕ) × Forked n self.now.tests self.now.forks }
-        ensures { Spotted self.now.tests self.now.forks x d result }
+        ensures spotted { Spotted self.now.tests self.now.forks x d result }
+        ensures inside { result < link_limit }
     {
         let mut p = 0;
         let mut c = usize::from(self.forks[p]);

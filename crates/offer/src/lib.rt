@@ -7,7 +7,7 @@ ghost use Rattle.position.specs.Position.{rules_of};
 ghost use Rattle.keys.specs.Keys.{alive, gift_room, keys_in, Homes, Gathered, Remembers};
 ghost use Rattle.offer.specs.Offer.{role_limit, Whole, Ready, Serves, offer_of, joints_of, role_of, target_of};
 
-use choices::{Choices, count, joint_move};
+use choices::{Choices, count};
 use codes::Codes;
 use facts::FactSet;
 use firing::{NO_MOVES, Scene, Stretch, views_by};
@@ -15,6 +15,7 @@ use keys::{Keys, Memo, joint_of};
 use position::choices_from;
 use rules::{Look, init_facts};
 use sheet::Layout;
+use sheet::record::Rules;
 
 // What is found once a sheet: its bytes as they were read, the views of each level, the codes of its rules, each role's moves.
 #[derive(Clone, Copy)]
@@ -48,7 +49,7 @@ pub fn initial(s: &[u8], y: Layout) -> u64
     requires { Whole s.now y }
     ensures { result ≡ (rules_of (sheet_in s.now y)).initial }
 {
-    init_facts(s, y.top, y.rules).number()
+    init_facts(Rules::of(s, y.top, y.rules)).bits
 }
 
 impl Study<'_> {
@@ -133,9 +134,9 @@ impl Targets<'_> {
     {
         let Offer { look, choices } = self.offer;
         if choices.terminal {
-            return look.facts.number();
+            return look.facts.bits;
         }
-        let m = joint_move(choices.sets, usize::from(self.y.sizes.roles), j as u32);
+        let m = choices.joint_move(usize::from(self.y.sizes.roles), j as u32);
         self.keys.give(self.gifts, joint_of(m), memo)
     }
 }

@@ -1,6 +1,6 @@
 -- `lookup::Tree::enroll` meets its contract: the four stores make node n.
 use native.Mathlib.Omega.{arith}
-use Rattle.lookup.proofs.Ways.{spotted_in, lands_in}
+use Rattle.lookup.proofs.Ways.{lands_in}
 use Rattle.lookup.proofs.Seeking.{another}
 use Rattle.lookup.proofs.Enrolling.{enrolled}
 use Rattle.lookup.proofs.Tree.enroll.Goals as goal
@@ -17,22 +17,6 @@ pub first_difference-d-requires : goal.first_difference-d-requires
 first_difference-d-requires c =
     another c.requires.0 c.land.ensures c.requires.1
 
-pub offset_bounds-self-q : goal.offset_bounds-self-q
-offset_bounds-self-q c =
-    omega (arith, c.requires.0.forked.room, spotted_in c.requires.0.forked c.spot-q.ensures)
-
-pub bounds-self-q : goal.bounds-self-q
-bounds-self-q c =
-    omega (arith, c.requires.0.forked.room, spotted_in c.requires.0.forked c.spot-q.ensures)
-
-pub offset_bounds-self-q-2 : goal.offset_bounds-self-q-2
-offset_bounds-self-q-2 c =
-    omega (arith, c.requires.0.forked.room, spotted_in c.requires.0.forked c.spot-q.ensures)
-
-pub bounds-self-q-2 : goal.bounds-self-q-2
-bounds-self-q-2 c =
-    omega (arith, c.requires.0.forked.room, spotted_in c.requires.0.forked c.spot-q.ensures)
-
 pub returns : goal.returns
 returns c =
-    enrolled c.requires.0 c.requires.2 c.land.ensures c.first_difference-d.ensures c.spot-q.ensures _ _ c.fork_at-new.ensures c.fork_at-old.ensures
+    enrolled c.requires.0 c.requires.2 c.land.ensures c.first_difference-d.ensures c.spot-q.ensures.spotted _ _ c.fork_at-new.ensures c.fork_at-old.ensures

@@ -1,5 +1,6 @@
 -- `lookup::Tree::spot` meets its contract. The invariant: the way of x has come to link p, which leads to c.
 use native.Mathlib.Omega.{arith}
+use Rattle.lookup.proofs.Ways.{spotted_in}
 use Rattle.lookup.proofs.Walking.{walk_start, walk_over, node_below, walk_high, walk_next, walk_less}
 use Rattle.lookup.proofs.Tree.spot.Goals as goal
 
@@ -10,8 +11,8 @@ pub bounds-self-k : goal.bounds-self-k
 bounds-self-k c =
     omega (arith, c.requires.1.room, node_below c.requires.1 c.loop-c.invariant c.loop-c-test.true)
 
-pub returns-then-d-f : goal.returns-then-d-f
-returns-then-d-f c =
+pub returns-then-d-f-clause-spotted : goal.returns-then-d-f-clause-spotted
+returns-then-d-f-clause-spotted c =
     walk_high c.requires.1 c.loop-c.invariant c.loop-c-test.true c.if-d-f.true
 
 pub fork_at-p-requires : goal.fork_at-p-requires
@@ -30,5 +31,9 @@ pub loop-c-preserved : goal.loop-c-preserved
 loop-c-preserved c =
     walk_next c.requires.1 c.loop-c.invariant c.loop-c-test.true c.if-d-f.false _ _ c.fork_at-p.ensures c.from-c-in-loop-c.ensures
 
-pub returns : goal.returns
-returns c = walk_over c.requires.1 c.loop-c.invariant c.loop-c-test.false
+pub returns-clause-spotted : goal.returns-clause-spotted
+returns-clause-spotted c = walk_over c.requires.1 c.loop-c.invariant c.loop-c-test.false
+
+pub returns-clause-inside : goal.returns-clause-inside
+returns-clause-inside c =
+    omega (arith, c.requires.1.room, spotted_in c.requires.1 (walk_over c.requires.1 c.loop-c.invariant c.loop-c-test.false))
