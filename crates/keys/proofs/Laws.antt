@@ -10,7 +10,7 @@ use lib.Bits.{bit_and, bit_or}
 use lib.Dec.{eqb}
 use lib.ListN.{get_or, length, take, drop, set, replicate, length-set, length-append, length-drop, length-replicate, get_or-append, get_or-replicate}
 use lib.Seq.{take-suc-set, length-take-le, get_or-set_same, get_or-set_other, get_or_at}
-use borrow.Author.Tests.{eqb-true, eqb-false, lt-ltb, le-ltb}
+use borrow.Author.Tests.{eqb-true, eqb-false, le-ltb}
 use Rattle.facts.specs.Bits.{has, insert}
 use Rattle.facts.specs.Sets.{le_or_lt}
 use Rattle.rules.specs.Rules.{over}
@@ -23,8 +23,7 @@ use Rattle.lookup.proofs.Seeking.{place_own}
 use Rattle.codes.specs.Codes.{calm, made_by, joint_of}
 use Rattle.codes.specs.Table.{sets_in, member_in}
 use Rattle.keys.specs.declared.Keys.{Keys}
-use Rattle.keys.specs.declared.Memo.{Memo}
-use Rattle.keys.specs.Keys.{alive, tested, picked_by, most_roles, kind_room, own_moves, named_in, moves_in, key_of, hint_room, Hinted, keys_in, Findable, Housed, gift_room, gift_of, Gathered, given, Remembers}
+use Rattle.keys.specs.Keys.{alive, tested, picked_by, most_roles, own_moves, named_in, moves_in, key_of, hint_room, Hinted, keys_in, Findable, Housed, gift_room, gift_of, Gathered, given}
 
 -- ---- sets of moves
 -- The moves of the roles below r, as a set.
@@ -121,22 +120,7 @@ hinted_more {keys} {hints} key f = record {
     low h false q = omega (arith, get_or-set_other hints at h more 0 (eqb-false h at q), f.low h, length-append keys (key ∷ []))
 
 module _ {k : Keys} (f : Findable k) (key c : ℕ) where
-  -- The key is known.
-  pub housed_old : {at : ℕ} → at < k.count → place key (keys_in k) ≡ at → Housed key c k (record k { homes = set k.homes c at })
-  housed_old h e =
-      let same : keys_in k ≡ grown (keys_in k) key =
-      sym (ap (λ (b : Bool). cond b (keys_in k) (keys_in k ++ (key ∷ []))) (lt-ltb (place key (keys_in k)) (length (keys_in k)) (omega (arith, keys_count f)))) in
-      record {
-        keys_are = same;
-        count = sym (keys_count f) ∙ ap length same;
-        found = record { tree = f.tree; hinted = f.hinted };
-        homes_are = ap (set k.homes c) (sym e);
-        keys_long = refl;
-        masks_are = refl;
-        kinds_are = refl;
-      }
-
-  -- It is new.
+  -- The key is new.
   pub housed_new : {tree : Tree} {low : ℕ} → place key (keys_in k) ≡ k.count → k.count < length k.keys → Enrolled k.keys k.count key tree.tests tree.forks → low ≡ key % hint_room
       → Housed key c k (record k { keys = set k.keys k.count key; tree = tree; hints = set k.hints low (k.count + 1); homes = set k.homes c k.count; count = k.count + 1 })
   housed_new {low = low} e room tree p =
@@ -160,16 +144,6 @@ module _ {k : Keys} (f : Findable k) (key c : ℕ) where
       }
 
 -- ---- gifts are gathered
--- One entry more of a table is as it should be.
-pub filled_on : (P : ℕ → ℕ → Type 0) (by : List ℕ) (m v : ℕ) → m < length by → ((k : ℕ) → k < m → P k (get_or by k 0)) → P m v → (k : ℕ) → k < m + 1 → P k (get_or (set by m v) k 0)
-filled_on P by m v l f p k h = go (eqb k m) refl
-  where
-    go : (t : Bool) → eqb k m ≡ t → P k (get_or (set by m v) k 0)
-    go true q = let e : m ≡ k = sym (eqb-true k m q) in subst (λ (i : ℕ). P i (get_or (set by m v) i 0)) e (subst (P m) (sym (get_or-set_same by m v 0 l)) p)
-    go false q =
-        let n : k ≡ m → ⊥ = eqb-false k m q in
-        subst (P k) (sym (get_or-set_other by m k v 0 n)) (f k (omega arith))
-
 -- Over two lists, one after the other.
 pub over_append : {A : Type 0} (f : A → ℕ → ℕ) (l m : List A) (x : ℕ) → over f (l ++ m) x ≡ over f m (over f l x)
 over_append f [] m x = refl
@@ -241,28 +215,6 @@ module _ (code : List ℕ) (k : Keys) (facts views : ℕ) where
             ∙ ap (λ (t : Bool). cond t (insert (gift_of code k.homes i before) member) (gift_of code k.homes i before)) (sym v)
 
 -- ---- gifts are looked up
-module _ {keys : List ℕ} {m : Memo} (r : Remembers keys m) {k : ℕ} (low : k < kind_room) where
-  -- What was asked for before.
-  pub recall_same : {part : ℕ} → get_or m.asked k 0 ≡ part → get_or m.places k 0 ≡ place (key_of part) keys
-  recall_same h = r.places_are k low ∙ ap (λ (x : ℕ). place (key_of x) keys) h
-
-  -- What is asked for now.
-  pub recall_new : (part : ℕ) {at : ℕ} → at ≡ place (key_of part) keys → Remembers keys (record { asked = set m.asked k part; places = set m.places k at })
-  recall_new part {at} e = record {
-    places_are = λ i h. go i h (eqb i k) refl;
-    asked_long = length-set m.asked k part ∙ r.asked_long;
-    places_long = length-set m.places k at ∙ r.places_long;
-  }
-    where
-      go : (i : ℕ) → i < kind_room → (t : Bool) → eqb i k ≡ t → get_or (set m.places k at) i 0 ≡ place (key_of (get_or (set m.asked k part) i 0)) keys
-      go i h true q =
-          let j : i ≡ k = eqb-true i k q in
-          subst (λ (s : ℕ). get_or (set m.places k at) s 0 ≡ place (key_of (get_or (set m.asked k part) s 0)) keys) (sym j)
-          (get_or-set_same m.places k at 0 (omega (arith, r.places_long)) ∙ e ∙ ap (λ (x : ℕ). place (key_of x) keys) (sym (get_or-set_same m.asked k part 0 (omega (arith, r.asked_long)))))
-      go i h false q =
-          let j : i ≡ k → ⊥ = eqb-false i k q in
-          get_or-set_other m.places k i at 0 j ∙ r.places_are i h ∙ ap (λ (x : ℕ). place (key_of x) keys) (sym (get_or-set_other m.asked k i part 0 j))
-
 module _ (keys masks gifts : List ℕ) (joint : ℕ) where
   -- Before the first kind nothing is given.
   pub given_none : 0 ≡ given keys masks gifts joint 0

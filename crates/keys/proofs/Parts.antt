@@ -113,10 +113,6 @@ named_has d (suc n) r h f = go (λ l. named_has d n r l f) (eqb (bit_and (own_mo
 pub kind_low : (d : ℕ) → kind_of d < kind_room
 kind_low d = width_of most_roles (kind_of d) (λ r h. (named_in_lem d most_roles r h).0)
 
--- So is what was found to be one.
-pub kind_under : {kind : ℕ} (d : ℕ) → kind ≡ kind_of d → kind < kind_room
-kind_under d e = omega (arith, kind_low d)
-
 -- ---- the moves of a set of roles
 -- A move that is there is of a role below the bound that is in the set.
 moves_in_lem : (k n i : ℕ) → i ∈ moves_in k n → (i / most_moves < n) × (i / most_moves ∈ k)
