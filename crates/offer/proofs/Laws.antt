@@ -124,9 +124,9 @@ module _ (o : Offer) where
   below_total r roles j e h = rw e h
 
   -- at the end of a game it stays
-  pub target_stays : (d : Sheet) (j : ℕ) → o.choices.terminal ≡ true → {t : ℕ} → t ≡ o.look.facts.bits → t ≡ target_of d o j
+  pub target_stays : (d : Sheet) (j : ℕ) → o.choices.terminal ≡ true → o.look.facts.bits ≡ target_of d o j
   unfolding target_of
-  target_stays d j h e = e ∙ leads_stay d.rules o.look (four (decode (take d.sizes.roles o.choices.sets) j)) o.choices.terminal h
+  target_stays d j h = leads_stay d.rules o.look (four (decode (take d.sizes.roles o.choices.sets) j)) o.choices.terminal h
 
   -- else it goes by what is looked up
   pub target_goes : (d : Sheet) (r j : ℕ) {t joint : ℕ} {m : List ℕ} {k : Keys} {gifts : List ℕ} → o.choices.terminal ≡ false → r ≡ d.sizes.roles

@@ -8,7 +8,7 @@ use Rattle.offer.proofs.Targets.reach.Goals as goal
 
 pub returns-then-choices : goal.returns-then-choices
 returns-then-choices c =
-    (target_stays c.args.self.offer (sheet_in c.args.self.s.now c.args.self.y) _ c.if-choices.true c.number.ensures, c.requires.3)
+    (target_stays c.args.self.offer (sheet_in c.args.self.s.now c.args.self.y) _ c.if-choices.true, c.requires.3)
 
 pub overflow_cast-j : goal.overflow_cast-j
 overflow_cast-j c =
