@@ -15,14 +15,6 @@ use Rattle.radix.specs.Classes.{rep, row, ranged, filled, repeated, Repeats}
 use Rattle.radix.proofs.Laws.{rep_le, pos}
 use Rattle.radix.proofs.Filling.{length_ranged, ranged_cong, ranged_at, ranged_before, ranged_after, filled_at, filled_length, put_part}
 
--- a role of the coalition adds its weight
-pub rise_on : (mask r w : ℕ) → has mask r ≡ true → w ≡ cond (has mask r) w 0
-rise_on mask r w e = rw e
-
--- and another one nothing
-pub rise_off : (mask r w : ℕ) → has mask r ≡ false → 0 ≡ cond (has mask r) w 0
-rise_off mask r w e = rw e
-
 -- the loop that repeats the first w entries
 module _ (w add : ℕ) (l : List ℕ) where
   -- the first entries are as they stand

@@ -27,12 +27,6 @@ impl<'a> Joints<'a> {
     }
 }
 
-pub fn wide(x: u16) -> usize
-    ensures { result ≡ x }
-{
-    usize::from(x)
-}
-
 // What each further choice of role `r` adds to the class: its weight, and nothing outside the coalition.
 fn rise(mask: u8, r: u8, w: usize) -> u16
     requires { (r < 8) × (w ≤ 65535) }
