@@ -24,9 +24,8 @@ use Rattle.position.specs.Meaning.{nodes_of}
 use Rattle.position.proofs.Nodes.{nodes_in_order}
 use Rattle.engine.specs.declared.Refusal.{Refusal}
 use Rattle.engine.specs.declared.Refusal.TheVariants.{Table, Sheet as BadSheet, Strata, NoChoice, ManyMoves, ManyStates}
-use Rattle.engine.specs.declared.Answer.{Answer}
-use Rattle.engine.specs.declared.Answer.TheVariants.{Refused}
-use Rattle.engine.specs.Promise.{Tables, RightLengths, zero_tables, Reads, Game, Solves, Meets}
+use Rattle.std.specs.Prelude.{Err}
+use Rattle.engine.specs.Promise.{Answer, Tables, RightLengths, zero_tables, Reads, Game, Solves, Meets}
 use Rattle.engine.specs.Used.{used}
 use Rattle.engine.proofs.Right.{answer_unique}
 
@@ -51,7 +50,7 @@ left (ManyMoves k) t = zero_tables
 left (ManyStates k) t = zero_tables
 
 -- where the rule of a refusal holds, it meets the promise with these tables
-meets_given : (s : List ℕ) (t : Tables) (q : Refusal) → Given s t q → Meets s t (left q t) (Refused q)
+meets_given : (s : List ℕ) (t : Tables) (q : Refusal) → Given s t q → Meets s t (left q t) (Err q)
 meets_given s t Table g = (g, refl)
 meets_given s t (BadSheet f k) g = (g.0, g.1, refl)
 meets_given s t (Strata v) g = (g.0, g.1, refl)
@@ -59,7 +58,7 @@ meets_given s t (NoChoice k) g = (g.0, g.1, refl)
 meets_given s t (ManyMoves k) g = (g.0, g.1, refl)
 meets_given s t (ManyStates k) g = (g.0, g.1, refl)
 
-given_meets : (s : List ℕ) (t u : Tables) (q : Refusal) → Meets s t u (Refused q) → Given s t q
+given_meets : (s : List ℕ) (t u : Tables) (q : Refusal) → Meets s t u (Err q) → Given s t q
 given_meets s t u Table m = m.0
 given_meets s t u (BadSheet f k) m = (m.0, m.1)
 given_meets s t u (Strata v) m = (m.0, m.1)
@@ -69,15 +68,15 @@ given_meets s t u (ManyStates k) m = (m.0, m.1)
 
 module _ (s : List ℕ) (t u : Tables) (r : Answer) (m : Meets s t u r) where
   -- A refusal is given exactly under its rule.
-  pub refusal_exact : (q : Refusal) → (r ≡ Refused q) ↔ Given s t q
+  pub refusal_exact : (q : Refusal) → (r ≡ Err q) ↔ Given s t q
   refusal_exact q = (
     λ e. given_meets s t u q (subst (Meets s t u) e m),
-    λ g. (answer_unique s t u (left q t) r (Refused q) m (meets_given s t q g)).0,
+    λ g. (answer_unique s t u (left q t) r (Err q) m (meets_given s t q g)).0,
   )
 
   -- And the tables are then as document 01 says.
-  pub refusal_tables : (q : Refusal) → r ≡ Refused q → u ≡ left q t
-  refusal_tables q e = (answer_unique s t u (left q t) r (Refused q) m (meets_given s t q ((refusal_exact q).0 e))).1
+  pub refusal_tables : (q : Refusal) → r ≡ Err q → u ≡ left q t
+  refusal_tables q e = (answer_unique s t u (left q t) r (Err q) m (meets_given s t q ((refusal_exact q).0 e))).1
 
 -- ---- demands 2 and 3: what the used entries of the tables are
 module _ {s : List ℕ} {t u : Tables} {states joints : ℕ} {verdict : Bool} (w : Solves s t u states joints verdict) where

@@ -30,13 +30,11 @@ use Rattle.offer.specs.Offer.{role_limit}
 use Rattle.model.specs.Views.{views_of}
 use Rattle.model.specs.Tables.{Sized, Zeros}
 use Rattle.model.specs.Answers as model
-use Rattle.model.specs.declared.Built.{Built}
-use Rattle.model.specs.declared.Built.TheVariants as builds
-use Rattle.model.specs.Answers.{Accepts, Builds}
+use Rattle.model.specs.Answers.{Accepts}
 use Rattle.nodes.specs.Asked.{Asked, Answered}
 use Rattle.engine.specs.declared.Refusal.{Refusal}
-use Rattle.engine.specs.declared.Answer.TheVariants.{Accepted, Refused}
-use Rattle.engine.specs.Promise.{tables, RightLengths, zero_tables}
+use Rattle.std.specs.Prelude.{Err}
+use Rattle.engine.specs.Promise.{accepts, tables, RightLengths, zero_tables}
 use Rattle.engine.specs.Solved.{outcome, stop, told, played}
 
 module _ (d : Sheet) (fit : Fits d) where
@@ -50,7 +48,7 @@ module _ (d : Sheet) (fit : Fits d) where
       ap told (result_unique (rules_of d) (nodes_of d) state_limit move_limit r (result (rules_of d) (nodes_of d) state_limit move_limit) h
       (result_right (rules_of d) (nodes_of d) state_limit move_limit (omega arith) (nodes_in_order d fit) some_node (omega arith)))
 
-  pub played_refused : (n k : ℕ) → IsRefusal (rules_of d) state_limit move_limit n k → outcome (Refused (stop n k)) zero_tables ≡ played d
+  pub played_refused : (n k : ℕ) → IsRefusal (rules_of d) state_limit move_limit n k → outcome (Err (stop n k)) zero_tables ≡ played d
   played_refused n k h = played_is (refused n k) h
 
   pub played_accepted : (l : List ℕ) → IsModel (rules_of d) state_limit move_limit l → told (accepted (reference.answer (rules_of d) (nodes_of d) l)) ≡ played d
@@ -74,10 +72,10 @@ module _ (d : Sheet) (fit : Fits d) where
   pub play_stops : (f : Stop) (x : Refusal) → x ≡ stop (model.number_of f) (model.place_of f) → (states starts successors counts views rounds choices marks : List ℕ)
       → IsRefusal (rules_of d) state_limit move_limit (model.number_of f) (model.place_of f) × Zeros state_limit move_limit states starts successors counts views
       → rounds ≡ pad state_limit [] → choices ≡ pad state_limit [] → marks ≡ pad state_limit []
-      → outcome (Refused x) (tables states starts successors rounds choices marks) ≡ played d
+      → outcome (Err x) (tables states starts successors rounds choices marks) ≡ played d
   play_stops f x e states starts successors counts views rounds choices marks h p q r =
-      ap (λ (y : Refusal). outcome (Refused y) (tables states starts successors rounds choices marks)) e
-      ∙ ap (outcome (Refused (stop (model.number_of f) (model.place_of f)))) (tables_same h.1.states_zero h.1.starts_zero h.1.successors_zero p q r)
+      ap (λ (y : Refusal). outcome (Err y) (tables states starts successors rounds choices marks)) e
+      ∙ ap (outcome (Err (stop (model.number_of f) (model.place_of f)))) (tables_same h.1.states_zero h.1.starts_zero h.1.successors_zero p q r)
       ∙ played_refused d fit (model.number_of f) (model.place_of f) h.0
 
   -- the first n states are the positions
@@ -89,16 +87,16 @@ module _ (d : Sheet) (fit : Fits d) where
   pub play_accepts : (n m : ℕ) (v : Bool) (states starts successors counts views rounds choices marks : List ℕ)
       → Accepts (rules_of d) (views_of d) state_limit move_limit n m states starts successors counts views
       → Answered (reference.answer (rules_of d) (nodes_of d) (take n states)) v marks rounds choices
-      → outcome (Accepted n m v) (tables states starts successors rounds choices marks) ≡ played d
+      → outcome (accepts n m v) (tables states starts successors rounds choices marks) ≡ played d
   play_accepts n m v states starts successors counts views rounds choices marks h w =
       let l = h.positions in
       let e = first_states n m states starts successors counts views h in
       let a : List ℕ → promise.Answer = reference.answer (rules_of d) (nodes_of d) in
       let moves : m ≡ length (a l).successors = h.moves ∙ sym (length-map (all (targets (rules_of d)) l) (λ (t : ℕ). place t l)) in
-      ap (λ (k : ℕ). outcome (Accepted k m v) (tables states starts successors rounds choices marks)) h.count
-      ∙ ap (λ (k : ℕ). outcome (Accepted (length l) k v) (tables states starts successors rounds choices marks)) moves
-      ∙ ap (λ (b : Bool). outcome (Accepted (length l) (length (a l).successors) b) (tables states starts successors rounds choices marks)) (w.verdict_is ∙ ap (λ (x : List ℕ). (a x).verdict) e)
-      ∙ ap (outcome (Accepted (length l) (length (a l).successors) (a l).verdict))
+      ap (λ (k : ℕ). outcome (accepts k m v) (tables states starts successors rounds choices marks)) h.count
+      ∙ ap (λ (k : ℕ). outcome (accepts (length l) k v) (tables states starts successors rounds choices marks)) moves
+      ∙ ap (λ (b : Bool). outcome (accepts (length l) (length (a l).successors) b) (tables states starts successors rounds choices marks)) (w.verdict_is ∙ ap (λ (x : List ℕ). (a x).verdict) e)
+      ∙ ap (outcome (accepts (length l) (length (a l).successors) (a l).verdict))
       (tables_same h.states_are h.starts_are h.successors_are
       (w.rounds_are ∙ ap (λ (x : List ℕ). pad state_limit (a x).rounds) e)
       (w.choices_are ∙ ap (λ (x : List ℕ). pad state_limit (a x).choices) e)
@@ -113,11 +111,3 @@ module _ (d : Sheet) (fit : Fits d) where
     moves = m;
     model = subst (λ (g : Sheet). Accepts (rules_of g) (views_of g) state_limit move_limit n m states starts successors counts views) (sym same) h;
   }
-
--- ---- the same of what the builder answered, whatever it is called
-module _ (d : Sheet) (b : Built) (states starts successors counts views : List ℕ) (built : Builds (rules_of d) (views_of d) state_limit move_limit b states starts successors counts views) where
-  pub was_refused : (f : Stop) → b ≡ builds.Refused f → Builds (rules_of d) (views_of d) state_limit move_limit (builds.Refused f) states starts successors counts views
-  was_refused f e = subst (λ (x : Built). Builds (rules_of d) (views_of d) state_limit move_limit x states starts successors counts views) e built
-
-  pub was_accepted : (n m : ℕ) → b ≡ builds.Accepted n m → Accepts (rules_of d) (views_of d) state_limit move_limit n m states starts successors counts views
-  was_accepted n m e = subst (λ (x : Built). Builds (rules_of d) (views_of d) state_limit move_limit x states starts successors counts views) e built

@@ -9,6 +9,7 @@ use lib.Dec.{eqb}
 use borrow.Author.Tests.{eqb-true, eq-eqb}
 use Rattle.tables.specs.Lengths.{state_limit, move_limit}
 use Rattle.sheet.specs.declared.Layout.{Layout}
+use Rattle.sheet.specs.declared.Fault.{Fault}
 use Rattle.sheet.specs.declared.Answer.{Answer as Reading}
 use Rattle.sheet.specs.declared.Answer.TheVariants as reading
 use Rattle.sheet.specs.Data.{Sheet}
@@ -31,9 +32,8 @@ use Rattle.position.proofs.Right.{rules_right, rules_unique}
 use Rattle.views.proofs.Fits.{sheet_fits}
 use Rattle.position.proofs.Nodes.{nodes_long, nodes_in_order}
 use Rattle.engine.specs.declared.Refusal.TheVariants.{Table, Sheet as BadSheet, Strata, NoChoice, ManyMoves, ManyStates}
-use Rattle.engine.specs.declared.Answer.{Answer}
-use Rattle.engine.specs.declared.Answer.TheVariants.{Accepted, Refused}
-use Rattle.engine.specs.Promise.{Tables, RightLengths, Reads, Game, Meets}
+use Rattle.std.specs.Prelude.{Ok, Err}
+use Rattle.engine.specs.Promise.{Answer, accepts, Tables, RightLengths, Reads, Game, Meets}
 use Rattle.engine.specs.Solved.{Outcome, outcome, lengths_right, told, played, studied, read, solved}
 
 -- ---- the lengths
@@ -99,7 +99,7 @@ pub solved_meets : (s : List ℕ) (t : Tables) → MeetsAs s t (solved s t)
 unfolding solved
 solved_meets s t = go (lengths_right t) refl
   where
-    go : (b : Bool) → lengths_right t ≡ b → MeetsAs s t (cond b (read t s (read_sheet s)) (outcome (Refused Table) t))
+    go : (b : Bool) → lengths_right t ≡ b → MeetsAs s t (cond b (read t s (read_sheet s)) (outcome (Err Table) t))
     go true e = read_meets s t (lengths_are t e) (read_sheet s) refl
     go false e = ((λ r. false≢true (sym e ∙ lengths_right_lem t r)), refl)
 
@@ -117,7 +117,7 @@ module _ (s : List ℕ) (t u : Tables) where
 
   pub solved_right : RightLengths t → solved s t ≡ read t s (read_sheet s)
   unfolding solved
-  solved_right r = ap (λ (b : Bool). cond b (read t s (read_sheet s)) (outcome (Refused Table) t)) (lengths_right_lem t r)
+  solved_right r = ap (λ (b : Bool). cond b (read t s (read_sheet s)) (outcome (Err Table) t)) (lengths_right_lem t r)
 
   game_as : (g : Game s) → RightLengths t → (r : Result) → IsResult g.rules (nodes_of g.read.sheet) state_limit move_limit r → solved s t ≡ told r
   unfolding played
@@ -134,37 +134,51 @@ module _ (s : List ℕ) (t u : Tables) where
 
   pub meets_solved : (r : Answer) → Meets s t u r → outcome r u ≡ solved s t
   unfolding solved
-  meets_solved (Refused Table) m = ap (outcome (Refused Table)) m.1 ∙ sym (ap (λ (b : Bool). cond b (read t s (read_sheet s)) (outcome (Refused Table) t)) (not_right (lengths_right t) refl))
+  meets_solved (Err Table) m = ap (outcome (Err Table)) m.1 ∙ sym (ap (λ (b : Bool). cond b (read t s (read_sheet s)) (outcome (Err Table) t)) (not_right (lengths_right t) refl))
     where
       not_right : (b : Bool) → lengths_right t ≡ b → lengths_right t ≡ false
       not_right true e = absurd (m.0 (lengths_are t e))
       not_right false e = e
-  meets_solved (Refused (BadSheet f k)) m =
-      ap (outcome (Refused (BadSheet f k))) m.2 ∙ sym (solved_right m.0 ∙ ap (read t s) ((refusal_exact s f k).1 m.1))
-  meets_solved (Refused (Strata v)) m =
+  meets_solved (Err (BadSheet f k)) m =
+      ap (outcome (Err (BadSheet f k))) m.2 ∙ sym (solved_right m.0 ∙ ap (read t s) ((refusal_exact s f k).1 m.1))
+  meets_solved (Err (Strata v)) m =
       let r = m.1.0 in
-      ap (outcome (Refused (Strata v))) m.2
+      ap (outcome (Err (Strata v))) m.2
       ∙ sym (solved_right m.0 ∙ read_as r ∙ ap (studied t r.sheet) ((place_is r.sheet.rules (sheet_fits r.sheet r.fits) v).1 m.1.1))
-  meets_solved (Refused (NoChoice k)) m = ap (outcome (Refused (NoChoice k))) m.2 ∙ sym (game_as m.1.0 m.0 (refused 8 k) m.1.1)
-  meets_solved (Refused (ManyMoves k)) m = ap (outcome (Refused (ManyMoves k))) m.2 ∙ sym (game_as m.1.0 m.0 (refused 7 k) m.1.1)
-  meets_solved (Refused (ManyStates k)) m = ap (outcome (Refused (ManyStates k))) m.2 ∙ sym (game_as m.1.0 m.0 (refused 6 k) m.1.1)
-  meets_solved (Accepted n m v) w =
+  meets_solved (Err (NoChoice k)) m = ap (outcome (Err (NoChoice k))) m.2 ∙ sym (game_as m.1.0 m.0 (refused 8 k) m.1.1)
+  meets_solved (Err (ManyMoves k)) m = ap (outcome (Err (ManyMoves k))) m.2 ∙ sym (game_as m.1.0 m.0 (refused 7 k) m.1.1)
+  meets_solved (Err (ManyStates k)) m = ap (outcome (Err (ManyStates k))) m.2 ∙ sym (game_as m.1.0 m.0 (refused 6 k) m.1.1)
+  meets_solved (Ok solved) w =
       let a = w.answer in
-      ap (λ (x : ℕ). outcome (Accepted x m v) u) w.states_are
-      ∙ ap (λ (x : ℕ). outcome (Accepted (length a.positions) x v) u) w.moves_are
-      ∙ ap (λ (x : Bool). outcome (Accepted (length a.positions) (length a.successors) x) u) w.verdict_is
-      ∙ ap (outcome (Accepted (length a.positions) (length a.successors) a.verdict)) w.holds
+      ap (λ (x : ℕ). outcome (accepts x solved.moves solved.verdict) u) w.states_are
+      ∙ ap (λ (x : ℕ). outcome (accepts (length a.positions) x solved.verdict) u) w.moves_are
+      ∙ ap (λ (x : Bool). outcome (accepts (length a.positions) (length a.successors) x) u) w.verdict_is
+      ∙ ap (outcome (accepts (length a.positions) (length a.successors) a.verdict)) w.holds
       ∙ sym (game_as w.game w.lengths (accepted a) w.right)
 
--- for the code: what reading gives meets the promise, and so does refusal 9
-pub solves_read : (s : List ℕ) (t u : Tables) (r : Answer) → lengths_right t ≡ true → outcome r u ≡ read t s (read_sheet s) → Meets s t u r
-unfolding solved
-solves_read s t u r h e =
-    subst (λ (o : Outcome). Meets s t o.tables o.answer)
-    (ap (λ (b : Bool). cond b (read t s (read_sheet s)) (outcome (Refused Table) t)) h ∙ sym e) (solved_meets s t)
-
-pub solves_none : (s : List ℕ) (t : Tables) → lengths_right t ≡ false → Meets s t t (Refused Table)
+-- ---- for the code: where it stops, what it answers meets the promise
+pub solves_none : (s : List ℕ) (t : Tables) → lengths_right t ≡ false → Meets s t t (Err Table)
 solves_none s t h = ((λ r. false≢true (sym h ∙ lengths_right_lem t r)), refl)
+
+module _ (s : List ℕ) (t : Tables) (h : lengths_right t ≡ true) where
+  solves_read : (u : Tables) (r : Answer) → outcome r u ≡ read t s (read_sheet s) → Meets s t u r
+  unfolding solved
+  solves_read u r e =
+      subst (λ (o : Outcome). Meets s t o.tables o.answer)
+      (ap (λ (b : Bool). cond b (read t s (read_sheet s)) (outcome (Err Table) t)) h ∙ sym e) (solved_meets s t)
+
+  pub solves_unread : (f : Fault) (k : ℕ) → read_sheet s ≡ reading.Refused f k → Meets s t t (Err (BadSheet f k))
+  solves_unread f k e = solves_read t (Err (BadSheet f k)) (ap (read t s) (sym e))
+
+  module _ (y : Layout) (e : read_sheet s ≡ reading.Accepted y) where
+    solves_studied : (u : Tables) (r : Answer) (a : Studied) → views.answer (sheet_in s y).rules ≡ a → outcome r u ≡ studied t (sheet_in s y) a → Meets s t u r
+    solves_studied u r a f g = solves_read u r (g ∙ ap (studied t (sheet_in s y)) (sym f) ∙ ap (read t s) (sym e))
+
+    pub solves_unstratified : (v : ℕ) → views.answer (sheet_in s y).rules ≡ strata.NotStratified v → Meets s t t (Err (Strata v))
+    solves_unstratified v f = solves_studied t (Err (Strata v)) (strata.NotStratified v) f refl
+
+    pub solves_played : (u : Tables) (r : Answer) → views.answer (sheet_in s y).rules ≡ strata.Stratified → outcome r u ≡ played (sheet_in s y) → Meets s t u r
+    solves_played u r f g = solves_studied u r strata.Stratified f g
 
 -- Two answers that both meet the promise for one input are equal, and so are the tables that they leave.
 pub answer_unique : (s : List ℕ) (t u v : Tables) (r q : Answer) → Meets s t u r → Meets s t v q → (r ≡ q) × (u ≡ v)

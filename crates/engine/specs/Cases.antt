@@ -1,12 +1,10 @@
 -- Document 01's starred cases, one table: sheets that differ from the lamp sheet in one or two records, with the answer and the tables of each.
-use Rattle.std.specs.Prelude.{ℕ, true, false, List, [], ◌∷◌, ◌++◌, take}
+use Rattle.std.specs.Prelude.{ℕ, true, false, List, [], ◌∷◌, ◌++◌, take, Err}
 use Rattle.sheet.specs.declared.Fault.TheVariants.{Cut, After, Field, Form}
 use Rattle.sheet.specs.Data.{Part, part, Rule, Node, Sheet, bytes_of}
 use Rattle.meaning.specs.Promise.{none}
 use Rattle.engine.specs.declared.Refusal.TheVariants.{Sheet as BadSheet, Strata, NoChoice}
-use Rattle.engine.specs.declared.Answer.{Answer}
-use Rattle.engine.specs.declared.Answer.TheVariants.{Accepted, Refused}
-use Rattle.engine.specs.Promise.{Tables, holding, zero_tables}
+use Rattle.engine.specs.Promise.{Answer, accepts, Tables, holding, zero_tables}
 
 -- A rule without a body, and one with.
 abbrev fact : Part → Rule
@@ -76,13 +74,13 @@ untouched t = t
 abbrev pub starred : List Case
 starred =
     -- the lamp itself
-    (bytes_of lamp gives Accepted 2 5 true leaving λ t. two_states (2 ∷ 3 ∷ []) (1 ∷ 0 ∷ []) (0 ∷ none ∷ [])) ∷
+    (bytes_of lamp gives accepts 2 5 true leaving λ t. two_states (2 ∷ 3 ∷ []) (1 ∷ 0 ∷ []) (0 ∷ none ∷ [])) ∷
     -- coalition 1 instead: no
-    (bytes_of (asks (node 2 0 0 ∷ node 12 0 1 ∷ [])) gives Accepted 2 5 false leaving λ t. two_states (0 ∷ 3 ∷ []) (none ∷ 0 ∷ []) (none ∷ none ∷ [])) ∷
+    (bytes_of (asks (node 2 0 0 ∷ node 12 0 1 ∷ [])) gives accepts 2 5 false leaving λ t. two_states (0 ∷ 3 ∷ []) (none ∷ 0 ∷ []) (none ∷ none ∷ [])) ∷
     -- ALWAYS for coalition 2 of NOT FACT 0: no
-    (bytes_of (asks (node 2 0 0 ∷ node 7 0 0 ∷ node 11 1 2 ∷ [])) gives Accepted 2 5 false leaving λ t. two_states (2 ∷ 1 ∷ []) (0 ∷ 0 ∷ []) (0 ∷ 0 ∷ [])) ∷
+    (bytes_of (asks (node 2 0 0 ∷ node 7 0 0 ∷ node 11 1 2 ∷ [])) gives accepts 2 5 false leaving λ t. two_states (2 ∷ 1 ∷ []) (0 ∷ 0 ∷ []) (0 ∷ 0 ∷ [])) ∷
     -- without LEGAL 1 0, coalition 1: three joint moves, yes, round count 1, choice 1
-    (bytes_of (sheet 0 (legal 0 0 ∷ legal 0 1 ∷ legal 1 1 ∷ rest lit) (node 2 0 0 ∷ node 12 0 1 ∷ [])) gives Accepted 2 3 true leaving λ t. holding (record {
+    (bytes_of (sheet 0 (legal 0 0 ∷ legal 0 1 ∷ legal 1 1 ∷ rest lit) (node 2 0 0 ∷ node 12 0 1 ∷ [])) gives accepts 2 3 true leaving λ t. holding (record {
       positions = 0 ∷ 1 ∷ [];
       starts = 0 ∷ 2 ∷ 3 ∷ [];
       successors = 0 ∷ 1 ∷ 1 ∷ [];
@@ -92,18 +90,18 @@ starred =
       verdict = false;
     })) ∷
     -- without both LEGAL rules of role 1: refusal 8, place 0
-    (bytes_of (sheet 0 (legal 0 0 ∷ legal 0 1 ∷ rest lit) (node 2 0 0 ∷ node 12 0 3 ∷ [])) gives Refused (NoChoice 0) leaving λ t. zero_tables) ∷
+    (bytes_of (sheet 0 (legal 0 0 ∷ legal 0 1 ∷ rest lit) (node 2 0 0 ∷ node 12 0 3 ∷ [])) gives Err (NoChoice 0) leaving λ t. zero_tables) ∷
     -- NEXT for coalition 0 of FACT 0: yes at state 1, no at state 0
-    (bytes_of (asks (node 2 0 0 ∷ node 10 0 0 ∷ [])) gives Accepted 2 5 false leaving λ t. two_states (0 ∷ 3 ∷ []) (0 ∷ 0 ∷ []) (0 ∷ 0 ∷ [])) ∷
+    (bytes_of (asks (node 2 0 0 ∷ node 10 0 0 ∷ [])) gives accepts 2 5 false leaving λ t. two_states (0 ∷ 3 ∷ []) (0 ∷ 0 ∷ []) (0 ∷ 0 ∷ [])) ∷
     -- VIEW 0 from VIEW 0: accepted, view false
-    (bytes_of (sheet 1 (lamp_rules ++ (part 3 0 0 from (part 3 0 0 ∷ [])) ∷ []) (node 3 0 0 ∷ [])) gives Accepted 2 5 false leaving λ t. two_states (0 ∷ 0 ∷ []) (0 ∷ 0 ∷ []) (0 ∷ 0 ∷ [])) ∷
+    (bytes_of (sheet 1 (lamp_rules ++ (part 3 0 0 from (part 3 0 0 ∷ [])) ∷ []) (node 3 0 0 ∷ [])) gives accepts 2 5 false leaving λ t. two_states (0 ∷ 0 ∷ []) (0 ∷ 0 ∷ []) (0 ∷ 0 ∷ [])) ∷
     -- VIEW 0 from NOT VIEW 0: refusal 5, place 0
-    (bytes_of (sheet 1 (lamp_rules ++ (part 3 0 0 from (part 4 0 0 ∷ [])) ∷ []) (node 2 0 0 ∷ node 12 0 3 ∷ [])) gives Refused (Strata 0) leaving untouched) ∷
+    (bytes_of (sheet 1 (lamp_rules ++ (part 3 0 0 from (part 4 0 0 ∷ [])) ∷ []) (node 2 0 0 ∷ node 12 0 3 ∷ [])) gives Err (Strata 0) leaving untouched) ∷
     -- no `ED`: refusal 1, place 10; a byte after it: 1, place 11; the empty sheet: 1, place 0
-    (take 75 (bytes_of lamp) gives Refused (BadSheet Cut 10) leaving untouched) ∷
-    (bytes_of lamp ++ 0 ∷ [] gives Refused (BadSheet After 11) leaving untouched) ∷
-    ([] gives Refused (BadSheet Cut 0) leaving untouched) ∷
+    (take 75 (bytes_of lamp) gives Err (BadSheet Cut 10) leaving untouched) ∷
+    (bytes_of lamp ++ 0 ∷ [] gives Err (BadSheet After 11) leaving untouched) ∷
+    ([] gives Err (BadSheet Cut 0) leaving untouched) ∷
     -- node 0 names fact 1: refusal 2, place 8
-    (bytes_of (asks (node 2 1 0 ∷ node 12 0 3 ∷ [])) gives Refused (BadSheet Field 8) leaving untouched) ∷
+    (bytes_of (asks (node 2 1 0 ∷ node 12 0 3 ∷ [])) gives Err (BadSheet Field 8) leaving untouched) ∷
     -- TERMINAL from DOES 0 0: refusal 4, place 7
-    (bytes_of (sheet 0 (legal 0 0 ∷ legal 0 1 ∷ legal 1 0 ∷ legal 1 1 ∷ rest (part 5 0 0)) (node 2 0 0 ∷ node 12 0 3 ∷ [])) gives Refused (BadSheet Form 7) leaving untouched) ∷ []
+    (bytes_of (sheet 0 (legal 0 0 ∷ legal 0 1 ∷ legal 1 0 ∷ legal 1 1 ∷ rest (part 5 0 0)) (node 2 0 0 ∷ node 12 0 3 ∷ [])) gives Err (BadSheet Form 7) leaving untouched) ∷ []

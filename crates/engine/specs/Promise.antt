@@ -1,5 +1,5 @@
 -- THE PROMISE: what the engine answers, and what it leaves in the six lent tables, for every sheet and every table.
-use Rattle.std.specs.Prelude.{ℕ, ◌+◌, ◌≡◌, Bool, false, List, [], length}
+use Rattle.std.specs.Prelude.{ℕ, ◌+◌, ◌≡◌, Bool, false, List, [], length, Result, Ok, Err}
 use Rattle.tables.specs.Lengths.{state_limit, move_limit}
 use Rattle.tables.specs.Pad.{pad}
 use Rattle.sheet.specs.Data.{Sheet, bytes_of}
@@ -14,8 +14,15 @@ use Rattle.meaning.specs.Promise.{IsAnswer}
 use Rattle.position.specs.Meaning.{GameOf, nodes_of}
 use Rattle.engine.specs.declared.Refusal.{Refusal}
 use Rattle.engine.specs.declared.Refusal.TheVariants.{Table, Sheet as BadSheet, Strata, NoChoice, ManyMoves, ManyStates}
-use Rattle.engine.specs.declared.Answer.{Answer}
-use Rattle.engine.specs.declared.Answer.TheVariants.{Accepted, Refused}
+use Rattle.engine.specs.declared.Solved.{Solved}
+
+-- What the engine answers.
+abbrev pub Answer : Type 0
+Answer = Result Solved Refusal
+
+-- Accepted: how many states, how many joint moves, and the verdict.
+abbrev pub accepts : ℕ → ℕ → Bool → Answer
+accepts n m v = Ok (record { states = n; moves = m; verdict = v })
 
 -- Document 01's number of each refusal.
 abbrev pub number_of : Refusal → ℕ
@@ -102,10 +109,10 @@ module _ (s : List ℕ) (before after : Tables) where
 
   -- THE PROMISE, by the answer.
   abbrev pub Meets : Answer → Type 0
-  Meets (Refused Table) = (RightLengths before → ⊥) × (after ≡ before)
-  Meets (Refused (BadSheet f k)) = RightLengths before × IsRefused s f k × (after ≡ before)
-  Meets (Refused (Strata v)) = RightLengths before × ((r : Reads s) × IsPlace (view_rules r.sheet.rules) v) × (after ≡ before)
-  Meets (Refused (NoChoice k)) = Stopped (NoChoice k)
-  Meets (Refused (ManyMoves k)) = Stopped (ManyMoves k)
-  Meets (Refused (ManyStates k)) = Stopped (ManyStates k)
-  Meets (Accepted states moves verdict) = Solves states moves verdict
+  Meets (Err Table) = (RightLengths before → ⊥) × (after ≡ before)
+  Meets (Err (BadSheet f k)) = RightLengths before × IsRefused s f k × (after ≡ before)
+  Meets (Err (Strata v)) = RightLengths before × ((r : Reads s) × IsPlace (view_rules r.sheet.rules) v) × (after ≡ before)
+  Meets (Err (NoChoice k)) = Stopped (NoChoice k)
+  Meets (Err (ManyMoves k)) = Stopped (ManyMoves k)
+  Meets (Err (ManyStates k)) = Stopped (ManyStates k)
+  Meets (Ok solved) = Solves solved.states solved.moves solved.verdict

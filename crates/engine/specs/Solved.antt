@@ -1,5 +1,5 @@
 -- The reference: the engine's answer and tables, computed.
-use Rattle.std.specs.Prelude.{ℕ, Bool, cond, List, length, eqb}
+use Rattle.std.specs.Prelude.{ℕ, Bool, cond, List, length, eqb, Err}
 use Rattle.tables.specs.Lengths.{state_limit, move_limit, right_lengths}
 use Rattle.sheet.specs.declared.Answer.{Answer as Reading}
 use Rattle.sheet.specs.declared.Answer.TheVariants as reading
@@ -14,9 +14,7 @@ use Rattle.position.specs.Meaning.{nodes_of}
 use Rattle.position.specs.Position.{rules_of}
 use Rattle.engine.specs.declared.Refusal.{Refusal}
 use Rattle.engine.specs.declared.Refusal.TheVariants.{Table, Sheet as BadSheet, Strata, NoChoice, ManyMoves, ManyStates}
-use Rattle.engine.specs.declared.Answer.{Answer}
-use Rattle.engine.specs.declared.Answer.TheVariants.{Accepted, Refused}
-use Rattle.engine.specs.Promise.{Tables, holding, zero_tables}
+use Rattle.engine.specs.Promise.{Answer, accepts, Tables, holding, zero_tables}
 
 -- an answer, and the tables that it leaves
 pub record Outcome : Type 0 where
@@ -37,8 +35,8 @@ stop n k = cond (eqb n 8) (NoChoice k) (cond (eqb n 7) (ManyMoves k) (ManyStates
 
 -- what the result of a game leaves
 abbrev pub told : Result → Outcome
-told (refused n k) = outcome (Refused (stop n k)) zero_tables
-told (accepted a) = outcome (Accepted (length a.positions) (length a.successors) a.verdict) (holding a)
+told (refused n k) = outcome (Err (stop n k)) zero_tables
+told (accepted a) = outcome (accepts (length a.positions) (length a.successors) a.verdict) (holding a)
 
 -- of a stratified sheet
 unfoldable pub played : Sheet → Outcome
@@ -47,12 +45,12 @@ played d = told (result (rules_of d) (nodes_of d) state_limit move_limit)
 -- of a sheet that reads well
 abbrev pub studied : Tables → Sheet → Studied → Outcome
 studied t d strata.Stratified = played d
-studied t d (strata.NotStratified v) = outcome (Refused (Strata v)) t
+studied t d (strata.NotStratified v) = outcome (Err (Strata v)) t
 
 -- of a sheet
 abbrev pub read : Tables → List ℕ → Reading → Outcome
-read t s (reading.Refused f k) = outcome (Refused (BadSheet f k)) t
+read t s (reading.Refused f k) = outcome (Err (BadSheet f k)) t
 read t s (reading.Accepted y) = studied t (sheet_in s y) (views.answer (sheet_in s y).rules)
 
 unfoldable pub solved : List ℕ → Tables → Outcome
-solved s t = cond (lengths_right t) (read t s (read_sheet s)) (outcome (Refused Table) t)
+solved s t = cond (lengths_right t) (read t s (read_sheet s)) (outcome (Err Table) t)

@@ -1,17 +1,17 @@
 // The engine: a sheet and six lent tables in, an answer out.
 #![tactic(auto)]
 
-ghost use Rattle.std.specs.Prelude.{◌≡◌, true, length, replicate};
+ghost use Rattle.std.specs.Prelude.{◌≡◌};
 ghost use Rattle.sheet.specs.declared.Answer.TheVariants.{Accepted as Read};
 ghost use Rattle.sheet.specs.Reading.{read_sheet, sheet_in};
 ghost use Rattle.views.specs.declared.Strata.TheVariants.{Stratified};
 ghost use Rattle.views.specs.Sheet.{answer as Studied, masks_of};
 ghost use Rattle.model.specs.Answers.{number_of as stopNumber, place_of as stopPlace};
 ghost use Rattle.engine.specs.Promise.{number_of, place_of, tables, Meets};
-ghost use Rattle.engine.specs.Solved.{lengths_right, outcome, stop, played, studied, read};
+ghost use Rattle.engine.specs.Solved.{outcome, stop, played, studied, read};
 
-use sheet::{Fault, Layout};
-use tables::{clear16, clear64, right_lengths};
+use sheet::Fault;
+use tables::{STATE_LIMIT, right_lengths};
 use views::Strata;
 
 // Why a sheet is refused. Document 01's number and place of each: `number`, `place`.
@@ -31,157 +31,53 @@ pub enum Refusal {
     ManyStates(usize),
 }
 
-// Accepted: how many states, how many joint moves, and the verdict.
+// Of an accepted sheet: how many states, how many joint moves, and the verdict.
 #[derive(Clone, Copy)]
-pub enum Answer {
-    Accepted(usize, usize, bool),
-    Refused(Refusal),
+pub struct Solved {
+    pub states: usize,
+    pub moves: usize,
+    pub verdict: bool,
 }
 
-// Document 01's number of a refusal.
-pub fn number(r: Refusal) -> u8
-    ensures { result ≡ number_of r }
-{
-    match r {
-        Refusal::Table => 9,
-        Refusal::Sheet(f, k) => sheet::number(f),
-        Refusal::Strata(v) => 5,
-        Refusal::NoChoice(k) => 8,
-        Refusal::ManyMoves(k) => 7,
-        Refusal::ManyStates(k) => 6,
+impl Refusal {
+    // Document 01's number.
+    pub fn number(self) -> u8
+        ensures { result ≡ number_of self }
+    {
+        match self {
+            Refusal::Table => 9,
+            Refusal::Sheet(fault, _) => sheet::number(fault),
+            Refusal::Strata(_) => 5,
+            Refusal::NoChoice(_) => 8,
+            Refusal::ManyMoves(_) => 7,
+            Refusal::ManyStates(_) => 6,
+        }
     }
-}
 
-// And its place.
-pub fn place(r: Refusal) -> usize
-    ensures { result ≡ place_of r }
-{
-    match r {
-        Refusal::Table => 0,
-        Refusal::Sheet(f, k) => k,
-        Refusal::Strata(v) => sheet::wide(v),
-        Refusal::NoChoice(k) => k,
-        Refusal::ManyMoves(k) => k,
-        Refusal::ManyStates(k) => k,
-    }
-}
-
-// A refusal of the builder.
-fn stopped(f: model::Refusal) -> Refusal
-    ensures { result ≡ stop (stopNumber f) (stopPlace f) }
-{
-    match f {
-        model::Refusal::NoChoice(k) => Refusal::NoChoice(k),
-        model::Refusal::ManyMoves(k) => Refusal::ManyMoves(k),
-        model::Refusal::ManyStates(k) => Refusal::ManyStates(k),
-    }
-}
-
-// The tables that the builder does not fill become zero.
-fn clear(rounds: &mut [u16], choices: &mut [u16], marks: &mut [u64])
-    ensures { (rounds.new ≡ replicate (length rounds.old) 0) × (choices.new ≡ replicate (length choices.old) 0)
-        × (marks.new ≡ replicate (length marks.old) 0) }
-{
-    clear16(rounds);
-    clear16(choices);
-    clear64(marks);
-}
-
-// The game of a stratified sheet is built, and its question answered.
-fn play(
-    s: &[u8],
-    y: Layout,
-    masks: &[u64; 64],
-    states: &mut [u64],
-    starts: &mut [u16],
-    successors: &mut [u16],
-    rounds: &mut [u16],
-    choices: &mut [u16],
-    marks: &mut [u64],
-) -> Answer
-    requires { (read_sheet s.now ≡ Read y) × (Studied (sheet_in s.now y).rules ≡ Stratified) × (masks.now ≡ masks_of (sheet_in s.now y).rules)
-        × (lengths_right (tables states.old starts.old successors.old rounds.old choices.old marks.old) ≡ true) }
-    ensures { outcome result (tables states.new starts.new successors.new rounds.new choices.new marks.new)
-        ≡ played (sheet_in s.now y) }
-{
-    let top = y.top;
-    let rules = y.rules;
-    let moves = position::moves_of(s, top, rules);
-    let mut counts = [0u16; 4096];
-    let mut views = [0u64; 1024];
-    clear(rounds, choices, marks);
-    let built = model::build(
-        s,
-        y,
-        masks,
-        moves,
-        states,
-        starts,
-        successors,
-        &mut counts,
-        &mut views,
-    );
-    match built {
-        model::Built::Refused(f) => Answer::Refused(stopped(f)),
-        model::Built::Accepted(n, m) => {
-            let verdict = nodes::answer(
-                s, y, n, states, &views, starts, successors, &counts, marks, rounds, choices,
-            );
-            Answer::Accepted(n, m, verdict)
+    // And its place.
+    pub fn place(self) -> usize
+        ensures { result ≡ place_of self }
+    {
+        match self {
+            Refusal::Table => 0,
+            Refusal::Strata(view) => usize::from(view),
+            Refusal::Sheet(_, place)
+            | Refusal::NoChoice(place)
+            | Refusal::ManyMoves(place)
+            | Refusal::ManyStates(place) => place,
         }
     }
 }
 
-// A sheet that reads well: refusal 5, or the game.
-fn study(
-    s: &[u8],
-    y: Layout,
-    states: &mut [u64],
-    starts: &mut [u16],
-    successors: &mut [u16],
-    rounds: &mut [u16],
-    choices: &mut [u16],
-    marks: &mut [u64],
-) -> Answer
-    requires { (read_sheet s.now ≡ Read y) × (lengths_right (tables states.old starts.old successors.old rounds.old choices.old marks.old) ≡ true) }
-    ensures { outcome result (tables states.new starts.new successors.new rounds.new choices.new marks.new)
-        ≡ studied (tables states.old starts.old successors.old rounds.old choices.old marks.old)
-        (sheet_in s.now y) (Studied (sheet_in s.now y).rules) }
-{
-    let mut rows = [0u64; 64];
-    let mut masks = [0u64; 64];
-    let top = y.top;
-    let n = y.rules;
-    let strata = views::study(s, top, n, &mut rows, &mut masks);
-    match strata {
-        Strata::Stratified => play(
-            s, y, &masks, states, starts, successors, rounds, choices, marks,
-        ),
-        Strata::NotStratified(v) => Answer::Refused(Refusal::Strata(v)),
-    }
-}
+impl From<model::Refusal> for Refusal {
+    ghost from_gives = { λ f r. r ≡ stop (stopNumber f) (stopPlace f) };
 
-// A sheet, where the tables have their lengths: refusals 1 to 4, or what it says.
-fn read_sheet(
-    s: &[u8],
-    states: &mut [u64],
-    starts: &mut [u16],
-    successors: &mut [u16],
-    rounds: &mut [u16],
-    choices: &mut [u16],
-    marks: &mut [u64],
-) -> Answer
-    requires { lengths_right (tables states.old starts.old successors.old rounds.old choices.old marks.old) ≡ true }
-    ensures { outcome result (tables states.new starts.new successors.new rounds.new choices.new marks.new)
-        ≡ read (tables states.old starts.old successors.old rounds.old choices.old marks.old)
-        s.now (read_sheet s.now) }
-{
-    let reading = sheet::read(s);
-    match reading {
-        sheet::Answer::Accepted(y) => study(
-            s, y, states, starts, successors, rounds, choices, marks,
-        ),
-        sheet::Answer::Refused(f, k) => Answer::Refused(Refusal::Sheet(f, k)),
+    fn from(refusal: model::Refusal) -> Refusal {
+        match refusal {
+            model::Refusal::NoChoice(state) => Refusal::NoChoice(state),
+            model::Refusal::ManyMoves(state) => Refusal::ManyMoves(state),
+            model::Refusal::ManyStates(state) => Refusal::ManyStates(state),
+        }
     }
 }
 
@@ -194,12 +90,12 @@ pub fn solve(
     rounds: &mut [u16],
     choices: &mut [u16],
     marks: &mut [u64],
-) -> Answer
+) -> Result<Solved, Refusal>
     ensures { Meets s.now
         (tables states.old starts.old successors.old rounds.old choices.old marks.old)
         (tables states.new starts.new successors.new rounds.new choices.new marks.new) result }
 {
-    if right_lengths(
+    if !right_lengths(
         states.len(),
         starts.len(),
         successors.len(),
@@ -207,7 +103,56 @@ pub fn solve(
         choices.len(),
         marks.len(),
     ) {
-        return read_sheet(s, states, starts, successors, rounds, choices, marks);
+        return Err(Refusal::Table);
     }
-    Answer::Refused(Refusal::Table)
+    let layout = match sheet::read(s) {
+        sheet::Answer::Accepted(layout) => layout,
+        sheet::Answer::Refused(fault, place) => return Err(Refusal::Sheet(fault, place)),
+    };
+    let mut rows = [0; 64];
+    let mut masks = [0; 64];
+    if let Strata::NotStratified(view) = views::study(
+        s,
+        layout.top,
+        layout.rules,
+        &mut rows,
+        &mut masks,
+    ) {
+        return Err(Refusal::Strata(view));
+    }
+    rounds.fill(0);
+    choices.fill(0);
+    marks.fill(0);
+    let moves = position::moves_of(s, layout.top, layout.rules);
+    let mut counts = [0; 4096];
+    let mut seen = [0; STATE_LIMIT];
+    let built = model::build(
+        s,
+        layout,
+        &masks,
+        moves,
+        states,
+        starts,
+        successors,
+        &mut counts,
+        &mut seen,
+    )?;
+    let verdict = nodes::answer(
+        s,
+        layout,
+        built.states,
+        states,
+        &seen,
+        starts,
+        successors,
+        &counts,
+        marks,
+        rounds,
+        choices,
+    );
+    Ok(Solved {
+        states: built.states,
+        moves: built.moves,
+        verdict,
+    })
 }

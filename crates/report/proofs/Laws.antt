@@ -13,9 +13,9 @@ use Rattle.sheet.specs.Reading.{read_sheet}
 use Rattle.sheet.proofs.Exact.{exact, nodes_length}
 use Rattle.listing.specs.Listing.{listing, tables_of}
 use Rattle.listing.specs.Buffer.{Prints}
-use Rattle.engine.specs.declared.Answer.{Answer}
-use Rattle.engine.specs.declared.Answer.TheVariants.{Accepted}
-use Rattle.engine.specs.Promise.{Tables, Meets}
+use Rattle.std.specs.Prelude.{Ok}
+use Rattle.engine.specs.declared.Solved.{Solved}
+use Rattle.engine.specs.Promise.{Answer, Tables, Meets}
 use Rattle.report.specs.declared.Last.{Last}
 use Rattle.report.specs.Report.{is_eventually, last_at, last_in, listing_of, Reports}
 
@@ -34,17 +34,17 @@ last_is s y w q b e f g =
     ∙ ap (λ (k : ℕ). record { number = k - 1; eventually = is_eventually (question_of (node_at s (y.first + 6 * (k - 1)))) }) e
 
 -- the listing of an accepted sheet, where the last node is what the code read
-pub reports_listing : {s : List ℕ} {t u : Tables} {before after : List ℕ} {r n m : ℕ} {v : Bool} {answer : Answer} {x : Last}
+pub reports_listing : {s : List ℕ} {t u : Tables} {before after : List ℕ} {r : ℕ} {solved : Solved} {answer : Answer} {x : Last}
     → x ≡ last_in s (read_sheet s)
-    → answer ≡ Accepted n m v
+    → answer ≡ Ok solved
     → Meets s t u answer
-    → Prints (listing (tables_of u.states u.starts u.marks u.rounds u.choices x.number x.eventually) n v) before after r
+    → Prints (listing (tables_of u.states u.starts u.marks u.rounds u.choices x.number x.eventually) solved.states solved.verdict) before after r
     → Reports s t u before after r
 unfolding listing_of
-reports_listing {s} {t} {u} {before} {after} {r} {n} {m} {v} {answer} e is meets prints = record {
+reports_listing {s} {t} {u} {before} {after} {r} {solved} {answer} e is meets prints = record {
   answer = answer;
   meets = meets;
   prints =
-      let P : Last → Type 0 = λ x. Prints (listing (tables_of u.states u.starts u.marks u.rounds u.choices x.number x.eventually) n v) before after r in
+      let P : Last → Type 0 = λ x. Prints (listing (tables_of u.states u.starts u.marks u.rounds u.choices x.number x.eventually) solved.states solved.verdict) before after r in
       rw is (subst P e prints);
 }

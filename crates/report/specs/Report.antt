@@ -1,5 +1,5 @@
 -- What is printed of a sheet, and what a report is: an answer that meets the engine's promise, and its text.
-use Rattle.std.specs.Prelude.{ℕ, ◌+◌, ◌-◌, ◌*◌, Bool, true, false, List}
+use Rattle.std.specs.Prelude.{ℕ, ◌+◌, ◌-◌, ◌*◌, Bool, true, false, List, Ok, Err}
 use Rattle.sheet.specs.declared.Layout.{Layout}
 use Rattle.sheet.specs.declared.Answer.{Answer as Reading}
 use Rattle.sheet.specs.declared.Answer.TheVariants as reading
@@ -12,9 +12,7 @@ use Rattle.sheet.specs.Question.{question_of}
 use Rattle.sheet.specs.Reading.{read_sheet}
 use Rattle.listing.specs.Listing.{listing, refusal, tables_of}
 use Rattle.listing.specs.Buffer.{Prints}
-use Rattle.engine.specs.declared.Answer.{Answer}
-use Rattle.engine.specs.declared.Answer.TheVariants.{Accepted, Refused}
-use Rattle.engine.specs.Promise.{number_of, place_of, Tables, Meets}
+use Rattle.engine.specs.Promise.{Answer, number_of, place_of, Tables, Meets}
 use Rattle.report.specs.declared.Last.{Last}
 
 -- The future is EVENTUALLY.
@@ -54,8 +52,8 @@ listing_of s t n verdict =
 
 -- What is printed of an answer.
 abbrev pub text_of : List ℕ → Tables → Answer → List ℕ
-text_of s t (Accepted n m verdict) = listing_of s t n verdict
-text_of s t (Refused r) = refusal (number_of r) (place_of r)
+text_of s t (Ok solved) = listing_of s t solved.states solved.verdict
+text_of s t (Err r) = refusal (number_of r) (place_of r)
 
 -- The buffer holds the text of an answer that meets the promise.
 pub record Reports (s : List ℕ) (before after : Tables) (out_before out_after : List ℕ) (r : ℕ) : Type 0 where

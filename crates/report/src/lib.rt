@@ -6,12 +6,11 @@ ghost use Rattle.sheet.specs.declared.Answer.TheVariants.{Accepted as Read};
 ghost use Rattle.sheet.specs.Reading.{read_sheet};
 ghost use Rattle.io.specs.Counts.{IsPrefixLen};
 ghost use Rattle.engine.specs.Promise.{tables};
-ghost use Rattle.report.specs.Report.{is_reach, is_eventually, last_at, last_in, Reports};
+ghost use Rattle.report.specs.Report.{is_eventually, last_at, last_in, Reports};
 
-use engine::Answer;
 use listing::Shown;
 use sheet::Layout;
-use sheet::question::{Future, Question};
+use sheet::question::{Future, Question, question_at};
 
 // The last node: its number, and whether it is EVENTUALLY.
 #[derive(Clone, Copy)]
@@ -20,33 +19,11 @@ pub struct Last {
     pub eventually: bool,
 }
 
-fn is_future(f: Future) -> bool
-    ensures { result ≡ is_reach f }
-{
-    match f {
-        Future::Next(a) => false,
-        Future::Always(a) => false,
-        Future::Eventually(a) => true,
-        Future::Until(a, b) => false,
-    }
-}
-
+// Is the node EVENTUALLY?
 fn asks_eventually(q: Question) -> bool
     ensures { result ≡ is_eventually q }
 {
-    match q {
-        Question::Unknown => false,
-        Question::True => false,
-        Question::Fact(f) => false,
-        Question::View(v) => false,
-        Question::Legal(r, m) => false,
-        Question::Goal(r, v) => false,
-        Question::Terminal => false,
-        Question::Not(a) => false,
-        Question::And(a, b) => false,
-        Question::Or(a, b) => false,
-        Question::Can(c, f) => is_future(f),
-    }
+    matches!(q, Question::Can(_, Future::Eventually(_)))
 }
 
 // The last node of a sheet that reads well.
@@ -54,22 +31,21 @@ fn last_at(s: &[u8], y: Layout) -> Last
     requires { read_sheet s.now ≡ Read y }
     ensures { result ≡ last_at s.now y }
 {
-    let number = sheet::wide(y.nodes) - 1;
+    let number = usize::from(y.nodes) - 1;
     let at = y.first + 6 * number;
-    let q = sheet::question::question_at(s, at);
     Last {
         number,
-        eventually: asks_eventually(q),
+        eventually: asks_eventually(question_at(s, at)),
     }
 }
 
+// The last node of a sheet; one that does not read has none.
 fn last_in(s: &[u8]) -> Last
     ensures { result ≡ last_in s.now (read_sheet s.now) }
 {
-    let reading = sheet::read(s);
-    match reading {
+    match sheet::read(s) {
         sheet::Answer::Accepted(y) => last_at(s, y),
-        sheet::Answer::Refused(f, k) => Last {
+        sheet::Answer::Refused(_, _) => Last {
             number: 0,
             eventually: false,
         },
@@ -93,9 +69,8 @@ pub fn report(
         out.old out.new result }
     ensures prefix_len { IsPrefixLen result out.new }
 {
-    let answer = engine::solve(s, states, starts, successors, rounds, choices, marks);
-    match answer {
-        Answer::Accepted(n, m, verdict) => {
+    match engine::solve(s, states, starts, successors, rounds, choices, marks) {
+        Ok(solved) => {
             let last = last_in(s);
             let shown = Shown {
                 states,
@@ -106,12 +81,10 @@ pub fn report(
                 last: last.number,
                 eventually: last.eventually,
             };
-            listing::print(out, shown, n, verdict)
+            listing::print(out, shown, solved.states, solved.verdict)
         }
-        Answer::Refused(r) => {
-            let number = u64::from(engine::number(r));
-            let place = engine::place(r) as u64;
-            listing::print_refusal(out, number, place)
+        Err(refusal) => {
+            listing::print_refusal(out, u64::from(refusal.number()), refusal.place() as u64)
         }
     }
 }

@@ -1,7 +1,7 @@
-// Lent tables: their lengths, an entry of one, and a table cleared. No function here asks anything of its caller.
+// Lent tables: their lengths, and an entry of one. No function here asks anything of its caller.
 #![tactic(auto)]
 
-ghost use Rattle.std.specs.Prelude.{◌≡◌, length, get_or, replicate};
+ghost use Rattle.std.specs.Prelude.{◌≡◌, get_or};
 ghost use Rattle.tables.specs.Lengths.{state_limit, move_limit, right_lengths};
 
 // The most states and the most joint moves that a model may have.
@@ -33,18 +33,4 @@ pub fn entry<T: Copy + Default>(table: &[T], i: usize) -> T
     ensures { (zero : T) → ((d : T) → T.is_default d → d ≡ zero) → result ≡ get_or table.now i zero }
 {
     table.get(i).copied().unwrap_or_default()
-}
-
-// Every entry becomes zero.
-pub fn clear64(table: &mut [u64])
-    ensures { table.new ≡ replicate (length table.old) 0 }
-{
-    table.fill(0);
-}
-
-// The same for sixteen bits.
-pub fn clear16(table: &mut [u16])
-    ensures { table.new ≡ replicate (length table.old) 0 }
-{
-    table.fill(0);
 }

@@ -2,5 +2,5 @@
 use Rattle.report.proofs.Laws.{reports_listing}
 use Rattle.report.proofs.report.Goals as goal
 
-pub returns-in-Accepted-clause-reports : goal.returns-in-Accepted-clause-reports
-returns-in-Accepted-clause-reports c = reports_listing c.last_in-last.ensures c.in-Accepted.is c.solve-answer.ensures c.print.ensures.prints
+pub returns-in-Ok-clause-reports : goal.returns-in-Ok-clause-reports
+returns-in-Ok-clause-reports c = reports_listing c.last_in-last.ensures c.in-Ok.is c.solve.ensures c.print.ensures.prints
