@@ -12,6 +12,8 @@ ghost use Rattle.codes.specs.Laid.{written, encoded, after, views_in, leveled, l
 
 use facts::FactSet;
 use rules::{Ask, member};
+use sheet::MOST_MOVES;
+use sheet::kinds::DOES;
 use sheet::record::{Body, Part, Rule, Rules};
 
 // The length of a table of codes, and of the ends of its stretches.
@@ -36,7 +38,11 @@ pub fn place_of(p: Part) -> u8
     requires { place_of p < bits }
     ensures { result ≡ place_of p }
 {
-    if p.kind == 5 { 16 * p.a + p.b } else { p.a }
+    if p.kind == DOES {
+        MOST_MOVES * p.a + p.b
+    } else {
+        p.a
+    }
 }
 
 // The literal into the set of its kind.
@@ -46,7 +52,7 @@ pub fn note(w: &mut Sets, p: Part)
     ensures { w.new ≡ noted p w.old }
 {
     let i = usize::from(p.kind) - 1;
-    w[i] = FactSet { bits: w[i] }.with(place_of(p)).number();
+    w[i] = u64::from(FactSet::from(w[i]).with(place_of(p)));
 }
 
 // The five sets of a body.
@@ -118,7 +124,7 @@ pub fn encode_level(rules: Rules, only: u64, code: &mut [u64], from: usize) -> u
     if only == 0 {
         from
     } else {
-        encode(rules, Ask::View(FactSet { bits: only }), code, from)
+        encode(rules, Ask::View(FactSet::from(only)), code, from)
     }
 }
 

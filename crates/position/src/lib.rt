@@ -61,7 +61,7 @@ pub fn choices_from(terminal: bool, legals: u64, moves: Moves) -> Choices
 pub fn is_legal(rules: Rules, k: Look, role: u8, m: u8) -> bool
     ensures { result ≡ has (legal_set (rules_of rules.entry) k role) m }
 {
-    gather(rules, Ask::Legal(role), k, FactSet { bits: 0 }).has(m)
+    gather(rules, Ask::Legal(role), k, FactSet::default()).has(m)
 }
 
 // What a plain test says of a position; the other nodes are no tests.
