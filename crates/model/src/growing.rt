@@ -142,7 +142,7 @@ impl Growing<'_> {
             return Err(Refusal::ManyMoves(k));
         }
         note_counts(offer, roles, k, self.counts);
-        self.views[k] = offer.look.views.number();
+        self.views[k] = offer.look.views.bits;
         self.starts[k + 1] = (self.listed + m) as u16;
         offer.gather_at(study.codes, keys, &mut room.gifts);
         let targets = Targets {

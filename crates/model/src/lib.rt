@@ -11,12 +11,13 @@ ghost use Rattle.model.specs.Answers.{Builds};
 
 mod growing;
 
-use codes::{CODE_ROOM, Codes, ENDS_ROOM, compile};
+use codes::Codes;
 use growing::{Growing, Room};
 use keys::{GIFT_ROOM, Keys, Memo};
 use lookup::Tree;
 use offer::{Study, initial};
 use sheet::Layout;
+use sheet::record::Rules;
 
 // The most roles that a sheet may have: the counts of a position stand in as many entries.
 pub const ROLE_LIMIT: usize = 4;
@@ -53,11 +54,7 @@ pub fn build(
     ensures { Builds (rules_of (sheet_in s.now y)) (views_of (sheet_in s.now y)) state_limit move_limit result
         states.new starts.new successors.new counts.new views.new }
 {
-    let mut codes = Codes {
-        code: [0; CODE_ROOM],
-        ends: [0; ENDS_ROOM],
-    };
-    compile(s, y.top, y.rules, masks, &mut codes.code, &mut codes.ends);
+    let codes = Codes::of(Rules::of(s, y.top, y.rules), masks);
     let study = Study {
         s,
         y,

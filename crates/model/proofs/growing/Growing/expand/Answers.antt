@@ -42,4 +42,4 @@ returns-clause-expanded c =
     let after = c.list_targets.ensures in
     rw c.ok_or.ensures.value
     (expanded c.requires.ready c.requires.stage c.requires.inside refl c.offer_at-offer.ensures c.joint_count-m.ensures
-    c.if-m-eq0.false c.if-self-m.false _ _ after.listed c.number.ensures (rw after.rows.counts c.note_counts.ensures) (ap (λ t. t.now) after.rows.starts) (ap (λ t. t.now) after.rows.views))
+    c.if-m-eq0.false c.if-self-m.false _ _ after.listed refl (rw after.rows.counts c.note_counts.ensures) (ap (λ t. t.now) after.rows.starts) (ap (λ t. t.now) after.rows.views))
