@@ -17,7 +17,7 @@ use Rattle.marking.specs.Flags.{cleared, strike, strikes, first_of}
 use Rattle.std.specs.Prelude.{Option, Some, None, position}
 use Rattle.std.specs.Option.{is_some, unwrap_or}
 use Rattle.std.proofs.lemmas.List.{get_or-take, get_or-drop}
-use Rattle.marking.proofs.Flags.{length_strikes, first_clean_lem, first_found, first_none}
+use Rattle.marking.proofs.Flags.{first_clean_lem, first_found, first_none}
 
 -- in range, no default is read
 pub get_d_default {ℓ} : {A : Type ℓ} (l : List A) (i : ℕ) (d e : A) → i < length l → get_or l i d ≡ get_or l i e
@@ -38,9 +38,6 @@ module _ (successors classes : List ℕ) (w : States) (first : ℕ) (l : List �
       let z : p + 1 - first ≡ suc (p - first) = omega arith in
       let y : first + (p - first) ≡ p = omega arith in
       rw (z, y) (g ∙ rw (d, f, e) refl)
-
-  pub strikes_length : (k : ℕ) (m : List ℕ) → m ≡ strikes successors classes w first l k → length m ≡ length l
-  strikes_length k m e = ap length e ∙ length_strikes successors classes w first l k
 
 -- one position
 module _ {n : ℕ} {starts successors classes : List ℕ} (s : Tables n starts successors classes) (i : ℕ) (h : i < n)

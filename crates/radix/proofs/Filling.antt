@@ -34,9 +34,6 @@ module _ (f : ℕ → ℕ) (first : ℕ) (l : List ℕ) where
   pub ranged_length : (j : ℕ) (m : List ℕ) → m ≡ ranged f first l j → length m ≡ length l
   ranged_length j m e = ap length e ∙ length_ranged j
 
-  pub ranged_all : (j count : ℕ) (m : List ℕ) → j ≤ count → count ≤ j → m ≡ ranged f first l j → m ≡ ranged f first l count
-  ranged_all j count m h g e = let z : j ≡ count = omega arith in e ∙ ap (ranged f first l) z
-
   pub ranged_at : (k j : ℕ) → first + k ≤ length l → j < k → get_or (ranged f first l k) (first + j) 0 ≡ f j
   unfolding ranged
   ranged_at zero j h m = absurd (not-suc-le-zero m)
@@ -195,9 +192,6 @@ module _ (starts counts : List ℕ) (mask : ℕ) (l : List ℕ) where
       ∙ ap (λ (r : List ℕ). filled (rep r (has mask)) (take (b - a) (drop a m)) (b - a)) (ap (λ (x : List ℕ). row x 0) t ∙ row_part counts i))
       ∙ rw (p, q, e) refl
       )
-
-  pub classed_all : (i n : ℕ) (m : List ℕ) → i ≤ n → n ≤ i → m ≡ classed starts counts mask l i → m ≡ classed starts counts mask l n
-  classed_all i n m h g e = let z : i ≡ n = omega arith in e ∙ ap (classed starts counts mask l) z
 
   -- what the table holds
   module _ (n : ℕ) (s : Starts n starts (length l)) where
