@@ -5,8 +5,8 @@ use mathlib.Core.List.{List, ◌++◌}
 use Prim.Native.Nat.{ℕ, zero, suc, ◌+◌, ◌≤◌, ◌<◌}
 use native.Mathlib.Omega.{arith}
 use lib.Dec.{eqb, leb}
-use lib.ListN.{get_or, length, take, drop, get_or-append}
-use lib.Seq.{length-take-le, length_front, take_at}
+use lib.ListN.{get_or, length, take, drop}
+use lib.Seq.{take_at}
 use Rattle.facts.specs.Bits.{has}
 use Rattle.atl.specs.Bounded.{tabulate}
 use Rattle.atl.specs.Game.{Game, States, everything}
@@ -19,7 +19,7 @@ use Rattle.radix.specs.Classes.{row, class_of, moves_at, classed, Starts, Counte
 use Rattle.radix.proofs.Laws.{alike_eqb, rep_lt}
 use Rattle.radix.proofs.Filling.{classed_at, classed_length}
 use Rattle.marking.specs.Table.{in_tables, side, Tables}
-use Rattle.marking.specs.Rule.{bits, permits, rule}
+use Rattle.marking.specs.Rule.{bits, rule}
 use Rattle.marking.proofs.Rounds.{is_game_lem}
 use Rattle.marks.specs.Noted.{noted}
 use Rattle.marks.specs.Model.{Model, in_counts}
@@ -54,9 +54,6 @@ back n p b r l rs e = take_at rs (drop n l) n (ap length e ∙ length_swept n p 
 pub back_length : (n : ℕ) (p : States → States) (b : States) (r : ℕ) (l rs : List ℕ) → rs ≡ swept n p b r → length (take n (rs ++ drop n l)) ≡ n
 back_length n p b r l rs e = ap length (back n p b r l rs e) ∙ ap length e ∙ length_swept n p b r
 
-pub begun_length : (n : ℕ) (f : ℕ → ℕ) (t l : List ℕ) → t ≡ tabulate n f → n ≤ length l → length (t ++ drop n l) ≡ length l
-begun_length n f t l e h = length_front l t n (ap length e ∙ length_tabulate n f ∙ sym (length-take-le n l h))
-
 module _ {states joints n : ℕ} {starts successors counts : List ℕ} (m : Model states joints n starts successors counts) (mask : ℕ) (l : List ℕ) (room : joints ≤ length l) where
   -- what is asked for the classes
   pub classes_asks : Starts n starts (length l) × Counted n starts counts
@@ -85,28 +82,26 @@ module _ {states joints n : ℕ} {starts successors counts : List ℕ} (m : Mode
           ap₂ eqb (at i h j g) (at i h k o) ∙ class_alike counts mask i j k (rw (m.counted.full i h) at g) (rw (m.counted.full i h) at o);
     }
 
-    pub same_counts : (want bound : Bool) (marks : List ℕ) (a b : ℕ) (rs : List ℕ)
-        → rs ≡ counts_in (in_tables n starts successors classes) want bound marks a b → rs ≡ counts_in (in_counts n starts successors counts mask) want bound marks a b
-    same_counts want bound marks a b rs q =
+    pub same_counts : (want : Bool) (a b : States) (rs : List ℕ) → rs ≡ swept n (rule (in_tables n starts successors classes) want a) b n
+        → rs ≡ swept n (rule (in_counts n starts successors counts mask) want a) b n
+    same_counts want a b rs q =
         q ∙ swept_same n _ _ _ (λ w i h.
-        rule_same (in_tables n starts successors classes) (in_counts n starts successors counts mask) want (permits bound marks a) w i (λ v. force_same _ _ same v i h)) n
+        rule_same (in_tables n starts successors classes) (in_counts n starts successors counts mask) want a w i (λ v. force_same _ _ same v i h)) n
 
     -- NEXT: the table has 0 at the positions of the set
-    begun_counted : (b : States) (t rest : List ℕ) → t ≡ tabulate n (λ i. cond (b i) 0 unset) → (i : ℕ) → i < n → counted (t ++ rest) 0 i ≡ b i
-    begun_counted b t rest q i h =
-        let z : length t ≡ n = ap length q ∙ length_tabulate n _ in
-        ap (λ (x : ℕ). leb x 0)
-        (get_or-append t rest unset i (omega arith) ∙ ap (λ (x : List ℕ). get_or x i unset) q ∙ get_d_tabulate n (λ i. cond (b i) 0 unset) unset i h) ∙ go (b i)
+    begun_counted : (b : States) (t : List ℕ) → t ≡ tabulate n (λ i. cond (b i) 0 unset) → (i : ℕ) → i < n → counted t 0 i ≡ b i
+    begun_counted b t q i h =
+        ap (λ (x : ℕ). leb x 0) (ap (λ (x : List ℕ). get_or x i unset) q ∙ get_d_tabulate n (λ i. cond (b i) 0 unset) unset i h) ∙ go (b i)
       where
         go : (x : Bool) → leb (cond x 0 unset) 0 ≡ x
         go true = refl
         go false = refl
 
-    pub same_next : (b : States) (t rest : List ℕ) → t ≡ tabulate n (λ i. cond (b i) 0 unset) → (k : ℕ) (marks ms : List ℕ)
-        → ms ≡ noted n k (force (in_tables n starts successors classes) (counted (t ++ rest) 0)) marks → ms ≡ noted n k (force (in_counts n starts successors counts mask) b) marks
-    same_next b t rest q k marks ms f =
+    pub same_next : (b : States) (t : List ℕ) → t ≡ tabulate n (λ i. cond (b i) 0 unset) → (k : ℕ) (marks ms : List ℕ)
+        → ms ≡ noted n k (force (in_tables n starts successors classes) (counted t 0)) marks → ms ≡ noted n k (force (in_counts n starts successors counts mask) b) marks
+    same_next b t q k marks ms f =
         f ∙ noted_cong n k _ _ marks (λ i h.
-        play.force_cong (in_tables n starts successors classes) (is_game_lem n starts successors classes tables) (counted (t ++ rest) 0) b (begun_counted b t rest q) i h
+        play.force_cong (in_tables n starts successors classes) (is_game_lem n starts successors classes tables) (counted t 0) b (begun_counted b t q) i h
         ∙ force_same _ _ same b i h)
 
 -- The sets that are noted are those of the marking.

@@ -1,20 +1,18 @@
 -- Writing one node's bit, position by position.
-use mathlib.Core.Path.{◌≡◌, refl, sym, ap, ap₂, ◌∙◌}
-use mathlib.Core.Bool.{Bool, true, false, not, ◌&&◌, ◌||◌}
+use mathlib.Core.Path.{◌≡◌, sym, ap, ap₂, ◌∙◌}
+use mathlib.Core.Bool.{Bool, true, false}
 use mathlib.Core.List.{List}
 use Prim.Native.Nat.{ℕ, ◌+◌, ◌≤◌, ◌<◌}
 use native.Mathlib.Nat.{le_refl}
 use native.Mathlib.Omega.{arith}
 use lib.ListN.{get_or, set}
 use lib.Seq.{set-get_or}
-use Rattle.facts.specs.Bits.{has, insert}
+use Rattle.facts.specs.Bits.{insert}
 use Rattle.facts.specs.Pack.{add_if}
 use Rattle.atl.specs.Game.{States}
 use Rattle.radix.specs.Classes.{filled}
 use Rattle.radix.proofs.Filling.{filled_more, filled_left, ranged_cong}
-use Rattle.marking.specs.Rule.{bits}
 use Rattle.marks.specs.Noted.{entry, noted}
-use Rattle.marks.specs.Node.{turned, joined}
 
 -- one entry
 pub mark_on : (k : ℕ) (l : List ℕ) (i : ℕ) (on : Bool) (s : ℕ) → on ≡ true → s ≡ insert (get_or l i 0) k → set l i s ≡ set l i (add_if on (get_or l i 0) k)
@@ -23,31 +21,9 @@ mark_on k l i on s e d = rw e (ap (set l i) d)
 pub mark_off : (k : ℕ) (l : List ℕ) (i : ℕ) (on : Bool) → on ≡ false → l ≡ set l i (add_if on (get_or l i 0) k)
 mark_off k l i on e = rw e (sym (set-get_or l i 0))
 
--- one position of NOT, AND, OR
-pub judge_more : (inner outer p q x y r : Bool) → x ≡ turned inner p → y ≡ turned inner q → x ≡ true → r ≡ turned outer y → r ≡ turned outer (turned inner p && turned inner q)
-judge_more inner outer p q x y r e f t g = g ∙ ap (turned outer) (f ∙ ap (λ (z : Bool). z && turned inner q) (sym t ∙ e))
-
-pub judge_less : (inner outer p q x r : Bool) → x ≡ turned inner p → x ≡ false → r ≡ turned outer false → r ≡ turned outer (turned inner p && turned inner q)
-judge_less inner outer p q x r e t g = g ∙ ap (λ (z : Bool). turned outer (z && turned inner q)) (sym t ∙ e)
-
-both_same : (x : Bool) → not (x && x) ≡ not x
-both_same true = refl
-both_same false = refl
-
-not_neither : (x y : Bool) → not (not x && not y) ≡ x || y
-not_neither true y = refl
-not_neither false true = refl
-not_neither false false = refl
-
 -- sets that agree below n write the same bits
 pub noted_cong : (n k : ℕ) (v w : States) (l : List ℕ) → ((i : ℕ) → i < n → v i ≡ w i) → noted n k v l ≡ noted n k w l
 noted_cong n k v w l e = ranged_cong (entry k v l) (entry k w l) 0 l n (λ i h. ap (λ (x : Bool). add_if x (get_or l i 0) k) (e i h))
-
-pub noted_not : (n a k : ℕ) (l m : List ℕ) → m ≡ noted n k (joined true false (bits l a) (bits l a)) l → m ≡ noted n k (λ i. not (bits l a i)) l
-noted_not n a k l m e = e ∙ noted_cong n k _ _ l (λ i h. both_same (bits l a i))
-
-pub noted_or : (n a b k : ℕ) (l m : List ℕ) → m ≡ noted n k (joined false false (bits l a) (bits l b)) l → m ≡ noted n k (λ i. bits l a i || bits l b i) l
-noted_or n a b k l m e = e ∙ noted_cong n k _ _ l (λ i h. not_neither (bits l a i) (bits l b i))
 
 -- one position after the other
 module _ (k : ℕ) (w : States) (l : List ℕ) where
@@ -61,8 +37,3 @@ module _ (k : ℕ) (w : States) (l : List ℕ) where
 
   pub note_all : (i n : ℕ) (m : List ℕ) → i ≤ n → n ≤ i → m ≡ filled (entry k w l) l i → m ≡ noted n k w l
   note_all i n m a b e = let z : i ≡ n = omega arith in e ∙ ap (filled (entry k w l) l) z
-
--- a set that is read off the table while it is written
-pub joined_left : (inner outer : Bool) (a b i : ℕ) (l m : List ℕ) (on : Bool) → get_or m i 0 ≡ get_or l i 0
-    → on ≡ joined inner outer (bits m a) (bits m b) i → on ≡ joined inner outer (bits l a) (bits l b) i
-joined_left inner outer a b i l m on z e = e ∙ ap (λ (x : ℕ). turned outer (turned inner (has x a) && turned inner (has x b))) z

@@ -3,3 +3,4 @@ pub mod Noted
 pub mod Model
 pub mod Node
 pub mod Held
+pub mod Coalition

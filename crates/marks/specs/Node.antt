@@ -1,5 +1,5 @@
 -- What a node marks, from the sets that the earlier ones mark.
-use Rattle.std.specs.Prelude.{Bool, true, false, ◌&&◌, not, List, ℕ}
+use Rattle.std.specs.Prelude.{Bool, List, ℕ}
 use Rattle.atl.specs.Game.{Game, States}
 use Rattle.atl.specs.Marking.{next, always, eventually, until, swept}
 use Rattle.meaning.specs.Atl.{Kind, NEXT, ALWAYS, EVENTUALLY, UNTIL}
@@ -25,12 +25,3 @@ kind_of (Until a b) = UNTIL a b
 -- the round counts of UNTIL, EVENTUALLY (not `bound`) or the loss of ALWAYS (nor `want`)
 abbrev pub counts_in : Game → Bool → Bool → List ℕ → ℕ → ℕ → List ℕ
 counts_in G want bound marks a b = swept G.states (rule G want (permits bound marks a)) (side want (bits marks b)) G.states
-
--- a truth, or its negation
-abbrev pub turned : Bool → Bool → Bool
-turned true x = x
-turned false x = not x
-
--- both of two sets, each or its outside; and of that the same
-abbrev pub joined : Bool → Bool → States → States → States
-joined inner outer a b i = turned outer (turned inner (a i) && turned inner (b i))

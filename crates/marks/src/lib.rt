@@ -1,21 +1,29 @@
 // The marks of the nodes, bit j for node j, and for the last node the rounds and choices: over the model's tables at full size.
 #![tactic(auto)]
 
-ghost use Rattle.std.specs.Prelude.{◌≡◌, not, ◌&&◌, ◌||◌, ◌++◌, ◌<◌, ◌≤◌, get_or, length, set, take, drop};
+ghost use Rattle.std.specs.Prelude.{◌≡◌, true, false, not, Bool, ℕ, ◌&&◌, ◌||◌, ◌++◌, ◌<◌, ◌≤◌, get_or, length, set, take, drop};
 ghost use Rattle.facts.specs.Pack.{add_if};
-ghost use Rattle.atl.specs.Game.{everything};
-ghost use Rattle.atl.specs.Marking.{counted, unset, force, marked, rounds as roundsOf, plan as plan_of, eventually as eventuallyOf};
-ghost use Rattle.incoming.specs.Owners.{Incoming};
-ghost use Rattle.marking.specs.Table.{in_tables, side, Tables};
+ghost use Rattle.atl.specs.Game.{States, everything};
+ghost use Rattle.atl.specs.Marking.{counted, force, marked, rounds as roundsOf, plan as plan_of, eventually as eventuallyOf};
+ghost use Rattle.incoming.specs.Leads.{Leads};
+ghost use Rattle.marking.specs.Table.{side};
+ghost use Rattle.marking.specs.Board.{game_of, aimed, passable};
 ghost use Rattle.marking.specs.Rule.{bits};
 ghost use Rattle.marks.specs.Noted.{noted};
-ghost use Rattle.marks.specs.Model.{positions_limit, joints_limit, Model, in_counts};
-ghost use Rattle.marks.specs.Node.{timed, counts_in, turned, joined};
+ghost use Rattle.marks.specs.Node.{timed};
+ghost use Rattle.backward.specs.Covered.{Covered};
+ghost use Rattle.marks.specs.Coalition.{meets, reaches, spread_counts, SameTables};
 
-use backward::count_rounds;
+pub mod arena;
+pub mod room;
+
+pub use arena::{Arena, Coalition};
+use backward::{Ground, count_rounds};
 use facts::FactSet;
-use marking::{begin, bit, holds_at, plan, within};
+use incoming::Incoming;
+use marking::{Aim, Board, Marked, begin, holds_at, plan};
 use radix::fill_classes;
+pub use room::Room;
 use sheet::question::Future;
 
 // The entry of position `i` with bit `k`, where `on`.
@@ -24,44 +32,18 @@ pub fn mark(marks: &mut [u64], k: u8, i: usize, on: bool)
     ensures { marks.new ≡ set marks.old i (add_if on (get_or marks.old i 0) k) }
 {
     if on {
-        let x = FactSet::of(marks[i]).with(k);
-        marks[i] = x.number();
+        marks[i] = u64::from(FactSet::from(marks[i]).with(k));
     }
 }
 
-// A truth, or its negation.
-fn turn(want: bool, x: bool) -> bool
-    ensures { result ≡ turned want x }
+// Bit `k` at those of the first `n` positions where the test passes, which is given the position and its marks so far.
+pub fn note<F: Fn(usize, FactSet) -> bool>(n: usize, k: u8, marks: &mut [u64], test: F)
+    requires { (n ≤ length marks.old) × (k < 64) × ((i : ℕ) (set : _) → i < n → F.pre test i set) }
+    ensures { (w : States) → ((i : ℕ) (on : Bool) → i < n → F.post test i (record { bits = get_or marks.old i 0 }) on → on ≡ w i) → marks.new ≡ noted n k w marks.old }
 {
-    if want { x } else { !x }
-}
-
-// One position of NOT, AND or OR: AND of both operands, where `inner` is false of their negations, and where `outer` is false its negation.
-fn judge(marks: &[u64], inner: bool, outer: bool, a: u8, b: u8, i: usize) -> bool
-    requires { i < length marks.now }
-    ensures { result ≡ joined inner outer (bits marks.now a) (bits marks.now b) i }
-{
-    let p = bit(marks, a, i);
-    let q = bit(marks, b, i);
-    let x = turn(inner, p);
-    let y = turn(inner, q);
-    if x {
-        turn(outer, y)
-    } else {
-        turn(outer, false)
-    }
-}
-
-// Bit `k` from bits `a` and `b`.
-fn connect(n: usize, inner: bool, outer: bool, a: u8, b: u8, k: u8, marks: &mut [u64])
-    requires { (n ≤ length marks.old) × (k < 64) }
-    ensures { marks.new ≡ noted n k (joined inner outer (bits marks.old a) (bits marks.old b)) marks.old }
-{
-    let mut i = 0;
-    while i < n {
-        let on = judge(marks, inner, outer, a, b, i);
+    for i in 0..n {
+        let on = test(i, FactSet::from(marks[i]));
         mark(marks, k, i, on);
-        i += 1;
     }
 }
 
@@ -70,7 +52,7 @@ pub fn mark_not(n: usize, a: u8, k: u8, marks: &mut [u64])
     requires { (n ≤ length marks.old) × (k < 64) }
     ensures { marks.new ≡ noted n k (λ i. not (bits marks.old a i)) marks.old }
 {
-    connect(n, true, false, a, a, k, marks);
+    note(n, k, marks, |_, set| !set.has(a));
 }
 
 // AND: bit `k` where bits `a` and `b` are.
@@ -78,218 +60,234 @@ pub fn mark_and(n: usize, a: u8, b: u8, k: u8, marks: &mut [u64])
     requires { (n ≤ length marks.old) × (k < 64) }
     ensures { marks.new ≡ noted n k (λ i. bits marks.old a i && bits marks.old b i) marks.old }
 {
-    connect(n, true, true, a, b, k, marks);
+    note(n, k, marks, |_, set| set.has(a) && set.has(b));
 }
 
-// OR: bit `k` where bit `a` or bit `b` is; not both are absent.
+// OR: bit `k` where bit `a` or bit `b` is.
 pub fn mark_or(n: usize, a: u8, b: u8, k: u8, marks: &mut [u64])
     requires { (n ≤ length marks.old) × (k < 64) }
     ensures { marks.new ≡ noted n k (λ i. bits marks.old a i || bits marks.old b i) marks.old }
 {
-    connect(n, false, false, a, b, k, marks);
+    note(n, k, marks, |_, set| set.has(a) || set.has(b));
 }
 
-// Bit `k` at the positions that have a count, or have none, where `want` is false.
-fn mark_counts(n: usize, rounds: &[u16], want: bool, k: u8, marks: &mut [u64])
-    requires { (n ≤ length rounds.now) × (n ≤ length marks.old) × (n < unset) × (k < 64) }
-    ensures { marks.new ≡ noted n k (side want (counted rounds.now n)) marks.old }
+// Bit `k` at the positions that are aimed at.
+fn mark_aimed(n: usize, aim: Aim, k: u8, marks: &mut [u64])
+    requires { (n ≤ length aim.table.now) × (n ≤ length marks.old) × (k < 64) }
+    ensures { marks.new ≡ noted n k (aimed aim.entry) marks.old }
 {
-    let r = n as u16;
-    let mut i = 0;
-    while i < n {
-        let on = within(rounds, r, want, i);
+    note(n, k, marks, |i, _| aim.holds(i));
+}
+
+// Bit `k` at the positions where some choice secures those that are aimed at. The room changes with each of them, so no closure is called.
+fn mark_forced(board: Board, aim: Aim, k: u8, flags: &mut [u16], marks: &mut [u64])
+    requires { (board.joints.n ≤ length aim.table.now) × (length board.joints.successors.now ≤ length flags.old) × (board.joints.n ≤ length marks.old) × (k < 64) }
+    ensures { marks.new ≡ noted board.entry.joints.n k (side aim.entry.want (force (game_of board.entry) (aimed aim.entry))) marks.old }
+{
+    for i in 0..board.joints.n {
+        let on = holds_at(board, aim, i, flags);
         mark(marks, k, i, on);
-        i += 1;
     }
 }
 
-// Bit `k` at the positions where some choice secures those of count 0 in the table.
-fn mark_forced(
-    n: usize,
-    starts: &[u16],
-    successors: &[u16],
-    classes: &[u16],
-    table: &[u16],
-    k: u8,
-    work: &mut [u16],
-    marks: &mut [u64],
-)
-    requires { Tables n starts.now successors.now classes.now × (n ≤ length table.now) × (length successors.now ≤ length work.old) × (n ≤ length marks.old) × (k < 64) }
-    ensures { marks.new ≡ noted n k (force (in_tables n starts.now successors.now classes.now) (counted table.now 0)) marks.old }
-{
-    let mut i = 0;
-    while i < n {
-        let on = holds_at(n, starts, successors, classes, table, 0, true, i, work);
-        mark(marks, k, i, on);
-        i += 1;
-    }
-}
-
-// NEXT, for the coalition `mask`, of node `a`: bit `k`.
-fn mark_next(
-    n: usize,
-    starts: &[u16],
-    successors: &[u16],
-    counts: &[u16],
-    mask: u8,
-    a: u8,
-    k: u8,
-    marks: &mut [u64],
-    classes: &mut [u16],
-    work: &mut [u16],
-    table: &mut [u16],
-)
-    requires { Model positions_limit joints_limit n starts.now successors.now counts.now × (n ≤ length marks.old) × (k < 64)
-        × (joints_limit ≤ length classes.old) × (joints_limit ≤ length work.old) × (positions_limit ≤ length table.old) }
-    ensures { marks.new ≡ noted n k (force (in_counts n starts.now successors.now counts.now mask) (bits marks.old a)) marks.old }
-{
-    fill_classes(n, starts, counts, mask, classes);
-    begin(n, marks, a, true, &mut table[..n]);
-    mark_forced(n, starts, successors, classes, table, k, work, marks);
-}
-
-// UNTIL (`want`, `bound`), EVENTUALLY (`want`) and ALWAYS (neither), for the coalition `mask`, of nodes `a` and `b`: the counts, and bit `k`.
-fn mark_spread(
-    n: usize,
-    starts: &[u16],
-    successors: &[u16],
-    counts: &[u16],
-    froms: &[u16],
-    index: &[u16],
-    owners: &[u16],
-    mask: u8,
+// How UNTIL, EVENTUALLY and ALWAYS spread: from the positions of node `from`, or, where not `want`, from the others; through those of node `through`,
+// where there is one.
+#[derive(Clone, Copy)]
+struct Spread {
     want: bool,
-    bound: bool,
-    a: u8,
-    b: u8,
+    through: Option<u8>,
+    from: u8,
+}
+
+// The positions that a node marks, where there is one.
+fn marked_by<'a>(marks: &'a [u64], node: Option<u8>) -> Option<Marked<'a>>
+    ensures set { passable result ≡ reaches marks.now node }
+    ensures covered { (n : ℕ) → n ≤ length marks.now → Covered n result }
+{
+    node.map(|k| Marked { marks, k })
+}
+
+// The tables that the question is answered in.
+#[derive(Drop)]
+pub struct Answer<'a> {
+    pub marks: &'a mut [u64],
+    pub rounds: &'a mut [u16],
+    pub choices: &'a mut [u16],
+}
+
+// NEXT of node `a`: bit `k`.
+fn mark_next(coalition: Coalition, a: u8, k: u8, marks: &mut [u64], room: &mut Room)
+    requires { (coalition.arena.joints.n ≤ length marks.old) × (k < 64) }
+    ensures { marks.new ≡ noted coalition.entry.arena.joints.n k (force (meets coalition.entry) (bits marks.old a)) marks.old }
+{
+    let joints = coalition.arena.joints;
+    fill_classes(
+        joints.n,
+        joints.starts,
+        coalition.arena.counts,
+        coalition.mask,
+        room.classes,
+    );
+    let board = Board {
+        joints,
+        classes: room.classes,
+    };
+    let mut table = [0; 1024];
+    let rounds = &mut table[..joints.n];
+    begin(Marked { marks, k: a }, true, rounds);
+    let aim = Aim {
+        table: rounds,
+        r: 0,
+        want: true,
+    };
+    mark_forced(board, aim, k, room.flags, marks);
+}
+
+// The counts of UNTIL, EVENTUALLY and ALWAYS. All that the walk reads is lent for one time, since it stands in one value.
+fn count_spread<'a>(
+    board: Board<'a>,
+    incoming: Incoming<'a>,
+    marks: &'a [u64],
+    spread: Spread,
+    rounds: &mut [u16],
+    flags: &mut [u16],
+)
+    requires { Leads board.joints incoming × (board.joints.n ≤ 1024) × (board.joints.n ≤ length marks.now) × (length rounds.old ≡ board.joints.n)
+        × (length board.joints.successors.now ≤ length flags.old) }
+    ensures { rounds.new ≡ spread_counts (game_of board.entry) marks.now spread }
+{
+    let through = marked_by(marks, spread.through);
+    let ground = Ground {
+        board,
+        incoming,
+        want: spread.want,
+        through,
+    };
+    let start = Marked {
+        marks,
+        k: spread.from,
+    };
+    count_rounds(ground, start, rounds, flags);
+}
+
+// UNTIL, EVENTUALLY and ALWAYS: the counts, and bit `k`.
+fn mark_spread(
+    coalition: Coalition,
+    spread: Spread,
     k: u8,
     marks: &mut [u64],
     rounds: &mut [u16],
-    classes: &mut [u16],
-    work: &mut [u16],
+    room: &mut Room,
 )
-    requires { Model positions_limit joints_limit n starts.now successors.now counts.now × (n ≤ length marks.old) × (n ≤ length rounds.old) × (k < 64)
-        × Incoming n starts.now successors.now froms.now index.now owners.now
-        × (joints_limit ≤ length classes.old) × (joints_limit ≤ length work.old) }
-    ensures { (rounds.new ≡ counts_in (in_counts n starts.now successors.now counts.now mask) want bound marks.old a b ++ drop n rounds.old) × (marks.new ≡ noted n k (side want (counted (counts_in (in_counts n starts.now successors.now counts.now mask) want bound marks.old a b) n)) marks.old) }
+    requires { (coalition.arena.joints.n ≤ length marks.old) × (coalition.arena.joints.n ≤ length rounds.old) × (k < 64) }
+    ensures counts { rounds.new ≡ spread_counts (meets coalition.entry) marks.old spread ++ drop coalition.entry.arena.joints.n rounds.old }
+    ensures marks { marks.new ≡ noted coalition.entry.arena.joints.n k (side spread.want (counted (spread_counts (meets coalition.entry) marks.old spread) coalition.entry.arena.joints.n)) marks.old }
 {
-    fill_classes(n, starts, counts, mask, classes);
-    count_rounds(
-        n,
-        starts,
-        successors,
-        classes,
-        froms,
-        index,
-        owners,
+    let joints = coalition.arena.joints;
+    fill_classes(
+        joints.n,
+        joints.starts,
+        coalition.arena.counts,
+        coalition.mask,
+        room.classes,
+    );
+    let board = Board {
+        joints,
+        classes: room.classes,
+    };
+    let counts = &mut rounds[..joints.n];
+    count_spread(
+        board,
+        coalition.arena.incoming,
         marks,
-        want,
-        bound,
-        a,
-        b,
-        &mut rounds[..n],
-        work,
+        spread,
+        counts,
+        room.flags,
     );
-    mark_counts(n, &rounds[..n], want, k, marks);
+    let aim = Aim {
+        table: counts,
+        r: joints.n as u16,
+        want: spread.want,
+    };
+    mark_aimed(joints.n, aim, k, marks);
 }
 
-// The choices for the coalition `mask`, by the round counts.
-fn fill_choices(
-    n: usize,
-    starts: &[u16],
-    successors: &[u16],
-    counts: &[u16],
-    mask: u8,
-    rounds: &[u16],
-    choices: &mut [u16],
-    classes: &mut [u16],
-    work: &mut [u16],
-)
-    requires { Model positions_limit joints_limit n starts.now successors.now counts.now × (n ≤ length rounds.now) × (n ≤ length choices.old)
-        × (joints_limit ≤ length classes.old) × (joints_limit ≤ length work.old) }
-    ensures { choices.new ≡ plan_of (in_counts n starts.now successors.now counts.now mask) (take n rounds.now) ++ drop n choices.old }
+// The choices, by the round counts.
+fn fill_choices(coalition: Coalition, rounds: &[u16], choices: &mut [u16], room: &mut Room)
+    requires { (coalition.arena.joints.n ≤ length rounds.now) × (coalition.arena.joints.n ≤ length choices.old) }
+    ensures { choices.new ≡ plan_of (meets coalition.entry) (take coalition.entry.arena.joints.n rounds.now) ++ drop coalition.entry.arena.joints.n choices.old }
 {
-    fill_classes(n, starts, counts, mask, classes);
+    let joints = coalition.arena.joints;
+    fill_classes(
+        joints.n,
+        joints.starts,
+        coalition.arena.counts,
+        coalition.mask,
+        room.classes,
+    );
+    let board = Board {
+        joints,
+        classes: room.classes,
+    };
     plan(
-        n,
-        starts,
-        successors,
-        classes,
-        &rounds[..n],
-        &mut choices[..n],
-        work,
+        board,
+        &rounds[..joints.n],
+        &mut choices[..joints.n],
+        room.flags,
     );
 }
 
-// A coalition's future: bit `k`. What `classes`, `flags` and `table` hold before and after does not matter: they are room to work in.
-pub fn mark_future(
-    n: usize,
-    starts: &[u16],
-    successors: &[u16],
-    counts: &[u16],
-    froms: &[u16],
-    index: &[u16],
-    owners: &[u16],
-    mask: u8,
-    future: Future,
-    k: u8,
-    marks: &mut [u64],
-    classes: &mut [u16],
-    work: &mut [u16],
-    table: &mut [u16],
-)
-    requires { Model positions_limit joints_limit n starts.now successors.now counts.now × (n ≤ length marks.old) × (k < 64)
-        × Incoming n starts.now successors.now froms.now index.now owners.now
-        × (joints_limit ≤ length classes.old) × (joints_limit ≤ length work.old) × (positions_limit ≤ length table.old) }
-    ensures { marks.new ≡ noted n k (marked (timed (in_counts n starts.now successors.now counts.now mask) (bits marks.old) future)) marks.old }
+// A coalition's future: bit `k`.
+pub fn mark_future(coalition: Coalition, future: Future, k: u8, marks: &mut [u64], room: &mut Room)
+    requires { (coalition.arena.joints.n ≤ length marks.old) × (k < 64) }
+    ensures { marks.new ≡ noted coalition.entry.arena.joints.n k (marked (timed (meets coalition.entry) (bits marks.old) future)) marks.old }
 {
+    let mut rounds = [0; 1024];
     match future {
-        Future::Next(a) => mark_next(
-            n, starts, successors, counts, mask, a, k, marks, classes, work, table,
-        ),
-        Future::Always(a) => mark_spread(
-            n, starts, successors, counts, froms, index, owners, mask, false, false, a, a, k,
-            marks, table, classes, work,
-        ),
-        Future::Eventually(a) => mark_spread(
-            n, starts, successors, counts, froms, index, owners, mask, true, false, a, a, k, marks,
-            table, classes, work,
-        ),
-        Future::Until(a, b) => mark_spread(
-            n, starts, successors, counts, froms, index, owners, mask, true, true, a, b, k, marks,
-            table, classes, work,
-        ),
+        Future::Next(a) => mark_next(coalition, a, k, marks, room),
+        Future::Always(from) => {
+            let spread = Spread {
+                want: false,
+                through: None,
+                from,
+            };
+            mark_spread(coalition, spread, k, marks, &mut rounds, room);
+        }
+        Future::Eventually(from) => {
+            let spread = Spread {
+                want: true,
+                through: None,
+                from,
+            };
+            mark_spread(coalition, spread, k, marks, &mut rounds, room);
+        }
+        Future::Until(a, from) => {
+            let spread = Spread {
+                want: true,
+                through: Some(a),
+                from,
+            };
+            mark_spread(coalition, spread, k, marks, &mut rounds, room);
+        }
     }
 }
 
-// EVENTUALLY as the last node: bit `k`, the round counts and the choices, 65,535 where there is none. `classes` and `flags` are room to work in.
-pub fn mark_last(
-    n: usize,
-    starts: &[u16],
-    successors: &[u16],
-    counts: &[u16],
-    froms: &[u16],
-    index: &[u16],
-    owners: &[u16],
-    mask: u8,
-    a: u8,
-    k: u8,
-    marks: &mut [u64],
-    rounds: &mut [u16],
-    choices: &mut [u16],
-    classes: &mut [u16],
-    work: &mut [u16],
-)
-    requires { Model positions_limit joints_limit n starts.now successors.now counts.now × (n ≤ length marks.old) × (n ≤ length rounds.old) × (n ≤ length choices.old) × (k < 64)
-        × Incoming n starts.now successors.now froms.now index.now owners.now
-        × (joints_limit ≤ length classes.old) × (joints_limit ≤ length work.old) }
-    ensures { (rounds.new ≡ roundsOf (in_counts n starts.now successors.now counts.now mask) everything (bits marks.old a) ++ drop n rounds.old) × (choices.new ≡ plan_of (in_counts n starts.now successors.now counts.now mask) (roundsOf (in_counts n starts.now successors.now counts.now mask) everything (bits marks.old a)) ++ drop n choices.old) × (marks.new ≡ noted n k (marked (eventuallyOf (in_counts n starts.now successors.now counts.now mask) (bits marks.old a))) marks.old) }
+// EVENTUALLY as the last node: bit `k`, the round counts and the choices, 65,535 where there is none.
+pub fn mark_last(coalition: Coalition, a: u8, k: u8, answer: &mut Answer, room: &mut Room)
+    requires { (coalition.arena.joints.n ≤ length answer.old.marks.now) × (coalition.arena.joints.n ≤ length answer.old.rounds.now)
+        × (coalition.arena.joints.n ≤ length answer.old.choices.now) × (k < 64) }
+    ensures rounds { answer.new.rounds.now ≡ roundsOf (meets coalition.entry) everything (bits answer.old.marks.now a) ++ drop coalition.entry.arena.joints.n answer.old.rounds.now }
+    ensures choices { answer.new.choices.now ≡ plan_of (meets coalition.entry) (roundsOf (meets coalition.entry) everything (bits answer.old.marks.now a)) ++ drop coalition.entry.arena.joints.n answer.old.choices.now }
+    ensures marks { answer.new.marks.now ≡ noted coalition.entry.arena.joints.n k (marked (eventuallyOf (meets coalition.entry) (bits answer.old.marks.now a))) answer.old.marks.now }
+    ensures same { SameTables answer.old answer.new }
 {
-    mark_spread(
-        n, starts, successors, counts, froms, index, owners, mask, true, false, a, a, k, marks,
-        rounds, classes, work,
-    );
-    fill_choices(
-        n, starts, successors, counts, mask, rounds, choices, classes, work,
-    );
+    let rounds = &mut *answer.rounds;
+    let choices = &mut *answer.choices;
+    let spread = Spread {
+        want: true,
+        through: None,
+        from: a,
+    };
+    mark_spread(coalition, spread, k, answer.marks, rounds, room);
+    fill_choices(coalition, rounds, choices, room);
 }

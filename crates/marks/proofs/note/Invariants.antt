@@ -1,0 +1,14 @@
+-- `marks::note`: bit k is written at the first i positions.
+use mathlib.Core.Path.{◌≡◌}
+use mathlib.Core.Bool.{Bool}
+use Prim.Native.Nat.{ℕ, ◌<◌}
+use lib.ListN.{get_or}
+use Rattle.atl.specs.Game.{States}
+use Rattle.radix.specs.Classes.{filled}
+use Rattle.marks.specs.Noted.{entry}
+use Rattle.marks.proofs.note.Given as goal
+
+abbrev pub invariant-loop-i : goal.invariant-loop-i
+invariant-loop-i g l =
+    (w : States) → ((i : ℕ) (on : Bool) → i < l.n → goal.F-post g l.test i (record { bits = get_or l.initial.marks i 0 }) on → on ≡ w i)
+    → l.marks ≡ filled (entry l.k w l.initial.marks) l.initial.marks l.i
