@@ -10,7 +10,7 @@ use Rattle.sheet.specs.Data.{Sheet}
 use Rattle.sheet.specs.Fields.{Fits}
 use Rattle.sheet.specs.Reading.{read_sheet}
 use Rattle.sheet.specs.declared.Layout.{Layout}
-use Rattle.sheet.specs.declared.Answer.TheVariants.{Accepted}
+use Rattle.std.specs.Prelude.{Ok}
 use Rattle.sheet.proofs.Exact.{exact}
 use Rattle.choices.specs.Moves.{decode, four}
 use Rattle.meaning.specs.Rules.{options, moves, after, targets}
@@ -21,7 +21,7 @@ use Rattle.position.proofs.Play.{sets_at, terminal_at, options_at, moves_count, 
 use Rattle.offer.specs.Offer.{role_limit, Whole, offer_of, joints_of, role_of, target_of}
 
 -- an accepted sheet is whole
-pub accepted_whole : (s : List ℕ) (y : Layout) → read_sheet s ≡ Accepted y → Whole s y
+pub accepted_whole : (s : List ℕ) (y : Layout) → read_sheet s ≡ Ok y → Whole s y
 accepted_whole s y e =
     let x = exact s y e in
     record { within = omega (arith, x.end, x.whole); fits = x.fits }
