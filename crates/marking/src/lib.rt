@@ -2,8 +2,8 @@
 #![tactic(auto)]
 
 ghost use Rattle.std.specs.List.{All};
-ghost use Rattle.std.specs.Prelude.{◌≡◌, cond, eqb, position, ℕ, ◌+◌, ◌<◌, ◌≤◌, get_or, length, IfSome};
-ghost use Rattle.atl.specs.Bounded.{lowest, tabulate};
+ghost use Rattle.std.specs.Prelude.{◌≡◌, cond, eqb, position, ◌<◌, ◌≤◌, get_or, length, IfSome};
+ghost use Rattle.atl.specs.Bounded.{tabulate};
 ghost use Rattle.atl.specs.Marking.{secures, force, unset, plan as plan_of, choice as choice_of};
 ghost use Rattle.radix.specs.Classes.{moves_at};
 ghost use Rattle.marking.specs.Table.{side};

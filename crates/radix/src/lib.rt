@@ -2,7 +2,7 @@
 // Two joint moves of a position have the same class exactly where they give the coalition's roles the same choices.
 #![tactic(auto)]
 
-ghost use Rattle.std.specs.Prelude.{◌≡◌, cond, ◌+◌, ◌*◌, ◌<◌, ◌≤◌, get_or, length};
+ghost use Rattle.std.specs.Prelude.{◌≡◌, cond, ◌+◌, ◌<◌, ◌≤◌, get_or, length};
 ghost use Rattle.facts.specs.Bits.{has};
 ghost use Rattle.meaning.specs.Radix.{product};
 ghost use Rattle.radix.specs.Classes.{row, class_of, filled, repeated, classed, Starts, Counted, Repeats};
