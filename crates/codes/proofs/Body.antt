@@ -2,7 +2,7 @@
 use mathlib.Core.Path.{◌≡◌, refl, ap, ◌∙◌}
 use mathlib.Core.List.{List, [], ◌∷◌}
 use Prim.Native.Nat.{ℕ, ◌+◌, ◌≤◌, ◌<◌}
-use lib.ListN.{length, get_or, set, length-set, length-append}
+use lib.ListN.{length, get_or, length-set, length-append}
 use Rattle.facts.specs.Bits.{insert}
 use Rattle.sheet.specs.declared.record.Part.{Part}
 use Rattle.sheet.specs.Data.{Rule}
@@ -11,12 +11,6 @@ use Rattle.rules.specs.Rules.{member_of}
 use Rattle.codes.specs.Codes as codes
 use Rattle.codes.specs.Codes.{bits, set_no, place_of, noted, noted_all, blank, sets_of, code_of, Sound}
 use Rattle.codes.specs.Table.{width}
-
--- ---- one literal
--- A store into the set of the literal's kind.
-pub note_is : (l : Part) (w : List ℕ) (i p y : ℕ) → i ≡ set_no l → p ≡ place_of l → y ≡ insert (get_or w i 0) p → set w i y ≡ noted l w
-unfolding noted
-note_is l w i p y e g h = rw (h, g, e) refl
 
 -- ---- how many sets a body has, and how many numbers a code
 pub noted_length : (l : Part) (w : List ℕ) → length (noted l w) ≡ length w
@@ -50,9 +44,3 @@ module _ {z : List ℕ} {l : Part} {b : List Part} {w : List ℕ} (v : Noting z 
     where
       go : Sound (l ∷ b) → (1 ≤ l.kind) × (l.kind ≤ 5) × (place_of l < bits)
       go (codes.one low high place move rest) = (low, high, place)
-
-  pub noting_on : {x : List ℕ} → x ≡ noted l w → Noting z b x
-  noting_on e = record { sound = go v.sound; gives = ap (noted_all b) e ∙ v.gives }
-    where
-      go : Sound (l ∷ b) → Sound b
-      go (codes.one low high place move rest) = rest

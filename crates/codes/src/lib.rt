@@ -73,7 +73,7 @@ pub fn sets_of(body: Body) -> Sets
 // Six numbers into slot c: five sets and a member.
 #[tactic(auto, using(crate::proofs::Laying::write_is))]
 pub fn write(w: Sets, m: u8, code: &mut [u64], c: usize)
-    requires { (length w ≡ 5) × (width * c + width ≤ length code.old) }
+    requires { width * c + width ≤ length code.old }
     ensures { code.new ≡ written code.old c (w ++ (m ∷ [])) }
 {
     let slot = &mut code[6 * c..6 * c + 6];
@@ -130,7 +130,7 @@ pub fn encode_level(rules: Rules, only: u64, code: &mut [u64], from: usize) -> u
 
 // The codes of all levels, and the slot after each.
 pub fn encode_levels(rules: Rules, masks: &[u64; 64], codes: &mut Codes, from: usize)
-    requires { AllSound (rules_of rules) × (length masks.now ≡ 64) × Sized codes.old.code codes.old.ends × (last_end (rules_of rules) masks.now from ≤ most_rules) }
+    requires { AllSound (rules_of rules) × (last_end (rules_of rules) masks.now from ≤ most_rules) }
     ensures table { codes.new.code ≡ leveled (rules_of rules.entry) masks.now codes.old.code from }
     ensures places { codes.new.ends ≡ sets codes.old.ends 3 (level_ends (rules_of rules.entry) masks.now from) }
 {

@@ -13,6 +13,7 @@ use facts::FactSet;
 use rules::{Ask, Look, gather, is_goal, is_terminal, role_moves};
 use sheet::question::Question;
 use sheet::record::Rules;
+use std::array;
 
 // The moves of each role, found once a sheet.
 pub fn moves_of(rules: Rules) -> Moves
@@ -30,7 +31,7 @@ pub fn choices_of(legal: u16, moves: u16) -> u16
 }
 
 // The sixteen bits of a role.
-pub fn part_of(x: u64, role: u64) -> u16
+pub fn part_of(x: u64, role: usize) -> u16
     requires { role < 4 }
     ensures { result ≡ x / 2 ^ (16 * role) % 2 ^ 16 }
 {
@@ -46,12 +47,11 @@ pub fn choices_from(terminal: bool, legals: u64, moves: Moves) -> Choices
     let sets = if terminal {
         [1; 4]
     } else {
-        [
-            choices_of(part_of(legals, 0), moves[0]),
-            choices_of(part_of(legals, 1), moves[1]),
-            choices_of(part_of(legals, 2), moves[2]),
-            choices_of(part_of(legals, 3), moves[3]),
-        ]
+        array::from_fn(
+            |role|
+                requires { role < 4 }
+            { choices_of(part_of(legals, role), moves[role]) },
+        )
     };
     Choices { sets, terminal }
 }

@@ -1,7 +1,7 @@
 -- `Codes::of` meets its contract: each call has its room, and the tables are those of the whole sheet.
 use Rattle.std.proofs.Common.{arith}
 use Rattle.sheet.specs.Records.{rules_of}
-use Rattle.codes.proofs.Compiling.{blank_sized, masks_long, next_room, legal_room, terminal_room, a_low, b_low, c_low, last_room, marked_sized, compile_is}
+use Rattle.codes.proofs.Compiling.{blank_sized, next_room, legal_room, terminal_room, a_low, b_low, c_low, last_room, compile_is}
 use Rattle.codes.proofs.Codes.of.Goals as goal
 
 pub encode-a-requires : goal.encode-a-requires
@@ -39,8 +39,6 @@ encode_levels-requires c =
     let p = c.requires in
     let rs = rules_of c.args.rules in (
       p.0,
-      masks_long rs p.1 p.2 blank_sized,
-      marked_sized rs p.1 p.2 blank_sized c.encode-a.ensures.slot c.encode-a.ensures.table c.encode-b.ensures.slot c.encode-b.ensures.table c.encode-c.ensures.slot c.encode-c.ensures.table,
       last_room rs p.1 p.2 blank_sized c.encode-a.ensures.slot c.encode-a.ensures.table c.encode-b.ensures.slot c.encode-b.ensures.table c.encode-c.ensures.slot c.encode-c.ensures.table,
     )
 
