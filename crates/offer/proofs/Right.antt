@@ -1,4 +1,5 @@
 -- What is computed of a position is what the game has there.
+use Rattle.std.specs.Prelude.{Ok}
 use Prim.Native.Nat.{ℕ, ◌≤◌, ◌<◌}
 use mathlib.Core.Path.{◌≡◌, sym, ap, ◌∙◌}
 use mathlib.Core.Bool.{Bool, cond}
@@ -10,7 +11,6 @@ use Rattle.sheet.specs.Data.{Sheet}
 use Rattle.sheet.specs.Fields.{Fits}
 use Rattle.sheet.specs.Reading.{read_sheet}
 use Rattle.sheet.specs.declared.Layout.{Layout}
-use Rattle.std.specs.Prelude.{Ok}
 use Rattle.sheet.proofs.Exact.{exact}
 use Rattle.choices.specs.Moves.{decode, four}
 use Rattle.meaning.specs.Rules.{options, moves, after, targets}

@@ -17,7 +17,8 @@ use rules::{Look, init_facts};
 use sheet::Layout;
 use sheet::record::Rules;
 
-// What is found once a sheet: its bytes as they were read, the views of each level, the codes of its rules, each role's moves.
+// What is found once a sheet: its bytes as they were read, the views of each level, the codes of its rules, each role's moves. Contracts say that it is the sheet's (`Ready`): as a
+// ghost field that would need proofs that the parts of `Fits` and `Compiled`, which are data, hold in one way only.
 #[derive(Clone, Copy)]
 pub struct Study<'a> {
     pub s: &'a [u8],
