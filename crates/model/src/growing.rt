@@ -116,6 +116,7 @@ impl Growing<'_> {
     }
 
     // State k is expanded: its choices, its joint moves, their targets; its refusals in the order 8, 7, 6.
+    #[tactic(auto, using(crate::proofs::Holding::holds_length, crate::proofs::Answering::lacks_choice))]
     fn expand(
         &mut self,
         study: Study,

@@ -1,7 +1,6 @@
 -- `model::build` meets its contract: the codes are the sheet's, and the keys are filed from them.
 use native.Mathlib.Omega.{arith}
 use Rattle.codes.proofs.Fits.{fits_sound}
-use Rattle.keys.proofs.Homing.{memo_start}
 use Rattle.offer.proofs.Laws.{file_asks}
 use Rattle.model.proofs.build.Goals as goal
 
@@ -12,6 +11,3 @@ of-codes-requires c =
 pub file-keys-requires : goal.file-keys-requires
 file-keys-requires c =
     let asks = file_asks c.of-codes.ensures.compiled c.of-codes.ensures.sized in (omega (arith, c.from.ensures, asks.0), omega (arith, c.from.ensures, asks.1))
-
-pub fill-requires-clause-memo : goal.fill-requires-clause-memo
-fill-requires-clause-memo c = memo_start c.file-keys.ensures c.new.ensures.asked c.new.ensures.places

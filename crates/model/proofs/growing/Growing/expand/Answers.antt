@@ -4,15 +4,11 @@ use mathlib.Core.Path.{refl, ap}
 use Rattle.offer.proofs.Right.{few_roles}
 use Rattle.offer.proofs.Laws.{gather_asks, gathered_serves}
 use Rattle.model.proofs.Holding.{holds_length, holds_clean}
-use Rattle.model.proofs.Answering.{lacks_choice, too_many_moves, expanded}
+use Rattle.model.proofs.Answering.{too_many_moves, expanded}
 use Rattle.model.proofs.growing.Growing.expand.Goals as goal
 
 pub joint_count-m-requires : goal.joint_count-m-requires
 joint_count-m-requires c = few_roles _ c.requires.ready.whole.fits
-
-pub returns-then-m-eq0-clause-expanded : goal.returns-then-m-eq0-clause-expanded
-returns-then-m-eq0-clause-expanded c =
-    lacks_choice c.requires.ready c.requires.stage c.requires.inside refl c.offer_at-offer.ensures c.joint_count-m.ensures c.if-m-eq0.true
 
 pub returns-then-self-m-clause-expanded : goal.returns-then-self-m-clause-expanded
 returns-then-self-m-clause-expanded c =
@@ -21,6 +17,9 @@ returns-then-self-m-clause-expanded c =
 pub note_counts-requires : goal.note_counts-requires
 note_counts-requires c =
     (omega (arith, c.requires.inside, c.requires.stage.numbered.holds.room), holds_clean c.requires.stage.counts_hold)
+
+pub bounds-self-k-2 : goal.bounds-self-k-2
+bounds-self-k-2 c = omega (arith, holds_length c.requires.stage.views_hold, c.requires.inside, c.requires.stage.numbered.holds.room)
 
 pub bounds-self-k-3 : goal.bounds-self-k-3
 bounds-self-k-3 c = omega (arith, holds_length c.requires.stage.starts_hold, c.requires.inside, c.requires.stage.numbered.holds.room)
