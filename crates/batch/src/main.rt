@@ -2,93 +2,58 @@
 // two bytes, low byte first. The tables are not cleared between sheets: the engine takes them as they are.
 #![tactic(auto)]
 
-ghost use Rattle.std.specs.Prelude.{◌≤◌, length};
-
-// How many bytes the next sheet has.
-fn length_of(low: u8, high: u8) -> usize
-    ensures { result ≤ 65535 }
-{
-    sheet::wide(low) + 256 * sheet::wide(high)
+// A sheet, the six tables that the engine fills, and what is printed.
+#[derive(Drop)]
+struct Room {
+    sheet: [u8; 65535],
+    states: [u64; 1024],
+    starts: [u16; 1025],
+    successors: [u16; 8192],
+    rounds: [u16; 1024],
+    choices: [u16; 1024],
+    marks: [u64; 1024],
+    out: [u8; listing::LISTING_ROOM],
 }
 
-// One sheet: false where the stream ends.
-fn one(
-    bytes: &mut [u8],
-    states: &mut [u64],
-    starts: &mut [u16],
-    successors: &mut [u16],
-    rounds: &mut [u16],
-    choices: &mut [u16],
-    marks: &mut [u64],
-    out: &mut [u8],
-) -> bool
-    requires { 65535 ≤ length bytes.old }
-{
-    let mut head = [0u8; 2];
-    let got = io::read_full(0, &mut head);
-    if got < 2 {
-        return false;
-    }
-    let n = length_of(head[0], head[1]);
-    let read = io::read_full(0, &mut bytes[..n]);
-    if read < n {
-        return false;
-    }
-    let k = report::report(
-        &bytes[..n],
-        states,
-        starts,
-        successors,
-        rounds,
-        choices,
-        marks,
-        out,
-    );
-    io::write_all(1, &out[..k])
-}
-
-// Sheet after sheet, until the stream ends.
-fn each(
-    bytes: &mut [u8],
-    states: &mut [u64],
-    starts: &mut [u16],
-    successors: &mut [u16],
-    rounds: &mut [u16],
-    choices: &mut [u16],
-    marks: &mut [u64],
-    out: &mut [u8],
-)
-    requires { 65535 ≤ length bytes.old }
-{
-    let mut k: u64 = 0;
-    while k < 1000000000 {
-        if one(
-            bytes, states, starts, successors, rounds, choices, marks, out,
-        ) {
-            k += 1;
-        } else {
-            return;
+impl Room {
+    // Solves the next sheet of the stream: false where the stream ends.
+    fn solve_next(&mut self) -> bool {
+        let mut length = [0; 2];
+        if io::read_full(0, &mut length) < 2 {
+            return false;
         }
+        let n = usize::from(u16::from_le_bytes(length));
+        if io::read_full(0, &mut self.sheet[..n]) < n {
+            return false;
+        }
+        let k = report::report(
+            &self.sheet[..n],
+            &mut self.states,
+            &mut self.starts,
+            &mut self.successors,
+            &mut self.rounds,
+            &mut self.choices,
+            &mut self.marks,
+            &mut self.out,
+        );
+        io::write_all(1, &self.out[..k])
     }
 }
 
 fn main() {
-    let mut bytes: [u8; 65535] = [0; 65535];
-    let mut states: [u64; 1024] = [0; 1024];
-    let mut starts: [u16; 1025] = [0; 1025];
-    let mut successors: [u16; 8192] = [0; 8192];
-    let mut rounds: [u16; 1024] = [0; 1024];
-    let mut choices: [u16; 1024] = [0; 1024];
-    let mut marks: [u64; 1024] = [0; 1024];
-    let mut out: [u8; listing::LISTING_ROOM] = [0; listing::LISTING_ROOM];
-    each(
-        &mut bytes,
-        &mut states,
-        &mut starts,
-        &mut successors,
-        &mut rounds,
-        &mut choices,
-        &mut marks,
-        &mut out,
-    );
+    let mut room = Room {
+        sheet: [0; 65535],
+        states: [0; 1024],
+        starts: [0; 1025],
+        successors: [0; 8192],
+        rounds: [0; 1024],
+        choices: [0; 1024],
+        marks: [0; 1024],
+        out: [0; listing::LISTING_ROOM],
+    };
+    for _ in 0..1000000000 {
+        if !room.solve_next() {
+            break;
+        }
+    }
 }
