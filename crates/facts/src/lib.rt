@@ -9,12 +9,6 @@ pub struct FactSet {
     pub bits: u64,
 }
 
-pub fn wide(x: u8) -> u64
-    ensures { result ≡ x }
-{
-    u64::from(x)
-}
-
 // The set that a number stands for.
 impl From<u64> for FactSet {
     ghost from_gives = { λ bits set. set.bits ≡ bits };
@@ -34,20 +28,6 @@ impl From<FactSet> for u64 {
 }
 
 impl FactSet {
-    // The set that a number stands for.
-    pub fn of(bits: u64) -> Self
-        ensures { result.bits ≡ bits }
-    {
-        Self { bits }
-    }
-
-    // The number that stands for the set.
-    pub fn number(self) -> u64
-        ensures { result ≡ self.bits }
-    {
-        self.bits
-    }
-
     // Does fact i hold? No fact from 64 on does.
     pub fn has(self, i: u8) -> bool
         ensures { result ≡ has self.bits i }

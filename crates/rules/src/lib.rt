@@ -7,10 +7,8 @@ ghost use Rattle.rules.specs.declared.Ask.TheVariants.{Legals};
 ghost use Rattle.rules.specs.Meaning.{doing, holds};
 ghost use Rattle.rules.specs.Rules.{fires, over, member_of, seen_by, added, gathered, does_of, does_set, is_terminal, is_goal, init_facts};
 
-pub mod kinds;
-
 use facts::FactSet;
-use kinds::{DOES, GOAL, INIT, LEGAL, NEXT, NOT_TRUE, NOT_VIEW, TERMINAL, TRUE, VIEW};
+use sheet::kinds::{DOES, GOAL, INIT, LEGAL, NEXT, NOT_TRUE, NOT_VIEW, TERMINAL, TRUE, VIEW};
 use sheet::record::{Body, Part, Rule, Rules};
 use sheet::{MOST_MOVES, MOST_ROLES};
 
@@ -33,12 +31,6 @@ pub enum Ask {
     Goal(u8, u8),
     Terminal,
     Legals,
-}
-
-pub fn wide(x: u8) -> usize
-    ensures { result ≡ x }
-{
-    x as usize
 }
 
 // Does the role make the move?

@@ -11,8 +11,8 @@ ghost use Rattle.views.specs.Reference.{listed, name_of, row_of, row, rows, join
 ghost use Rattle.views.specs.Sheet.{viewed, reach_of, mask_at, masks_of, answer_of, answer};
 
 use facts::FactSet;
-use rules::kinds::{NOT_VIEW, VIEW};
 use sheet::MOST_VIEWS;
+use sheet::kinds::{NOT_VIEW, VIEW};
 use sheet::record::{Body, Part, Rule, Rules};
 
 // The VIEW rules are not stratified: the lowest view on a closed chain with a NOT in it.
