@@ -17,6 +17,7 @@ use offer::{Offer, Study, Targets};
 use tables::{MOVE_LIMIT, STATE_LIMIT};
 
 // The five lent tables of a model, the tree in which its states are found, and how many states are found and joint moves listed.
+// Their lengths are no ghost fields: tried, and a field of such a struct cannot be lent as `&` in `enter`, whose proof then did not close.
 #[derive(Drop)]
 pub struct Growing<'a> {
     pub states: &'a mut [u64],

@@ -38,6 +38,7 @@ pub struct Built {
 }
 
 // The reachable model of the sheet's game, whatever the tables hold; on a refusal every entry is zero.
+// The tables come one by one, as `engine::solve` is lent them.
 #[tactic(auto, using(keys::proofs::Homing::memo_start))]
 pub fn build(
     s: &[u8],
