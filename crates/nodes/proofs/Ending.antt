@@ -1,6 +1,6 @@
 -- The last node: its rounds and choices where it is EVENTUALLY, none elsewhere; and the verdict.
 use Prim.Native.Nat.{ℕ, ◌+◌, ◌-◌, ◌*◌, ◌≤◌, ◌<◌}
-use mathlib.Core.Path.{◌≡◌, refl, sym, ap, ap₂, ◌∙◌}
+use mathlib.Core.Path.{◌≡◌, refl, sym, ap, ◌∙◌}
 use mathlib.Core.Bool.{Bool}
 use mathlib.Core.List.{List, [], ◌++◌}
 use native.Mathlib.Omega.{arith}
@@ -33,9 +33,10 @@ use Rattle.model.specs.Views.{views_of}
 use Rattle.model.specs.Answers.{Accepts}
 use Rattle.marking.specs.Rule.{bits}
 use Rattle.marks.specs.Noted.{noted}
-use Rattle.marks.specs.Model.{positions_limit, joints_limit, Model, in_counts}
+use Rattle.marks.specs.Model.{in_counts}
 use Rattle.marks.specs.Node.{timed}
-use Rattle.nodes.specs.declared.Goal.TheVariants.{Reach, Other}
+use Rattle.std.specs.Prelude.{Some, None}
+use Rattle.nodes.specs.declared.Reach.{Reach}
 use Rattle.nodes.specs.Goal.{goal_of}
 use Rattle.nodes.specs.Asked.{Ready, marks_to}
 use Rattle.nodes.proofs.Sheet.{count, some_node, in_order}
@@ -43,15 +44,18 @@ use Rattle.nodes.proofs.Marking.{pad_zeros, pad_over, marks_long, marks_at}
 use Rattle.nodes.proofs.Tables as tables
 use Rattle.nodes.proofs.Steps as steps
 
--- a question that has the goal is EVENTUALLY
-unlike : {c a : ℕ} → Other ≡ Reach c a → ⊥
-unlike e = let z : ◌≡◌ {A = ℕ} 0 1 = cc in omega arith
+-- a goal of a coalition
+abbrev pub reach : ℕ → ℕ → Reach
+reach c a = record { coalition = c; goal = a }
 
-reach_is : (q : Question) (c a : ℕ) → goal_of q ≡ Reach c a → q ≡ question.Can c (future.Eventually a)
+-- a question that has the goal is EVENTUALLY
+unlike : {r : Reach} → None ≡ Some r → ⊥
+unlike e = cc
+
+reach_is : (q : Question) (c a : ℕ) → goal_of q ≡ Some (reach c a) → q ≡ question.Can c (future.Eventually a)
 reach_is (question.Can b (future.Eventually x)) c a e =
-    let i : b ≡ c = cc in
-    let j : x ≡ a = cc in
-    ap₂ (λ u v. question.Can u (future.Eventually v)) i j
+    let i : reach b x ≡ reach c a = cc in
+    ap (λ (r : Reach). question.Can r.coalition (future.Eventually r.goal)) i
 reach_is (question.Can b (future.Next x)) c a e = absurd (unlike e)
 reach_is (question.Can b (future.Always x)) c a e = absurd (unlike e)
 reach_is (question.Can b (future.Until x z)) c a e = absurd (unlike e)
@@ -71,7 +75,7 @@ module _ (R : Rules) (nodes : List Node) (l : List ℕ) (k : ℕ) where
   abbrev Empty : Question → Type 0
   Empty q = (rounds_for R nodes l (node_of k q) ≡ zeros R nodes l) × (choices_for R nodes l (node_of k q) ≡ zeros R nodes l)
 
-  other_is : (q : Question) → goal_of q ≡ Other → Empty q
+  other_is : (q : Question) → goal_of q ≡ None → Empty q
   unfolding node_of rounds_for choices_for
   other_is (question.Can b (future.Eventually x)) e = absurd (unlike (sym e))
   other_is (question.Can b (future.Next x)) e = (refl, refl)
@@ -124,8 +128,8 @@ module _ {s : List ℕ} {y : Layout} {n : ℕ} {states views starting following 
   empty_long t e = let z = ap length e ∙ length_pad state_limit [] (omega arith) in omega (arith, z, tables.number model, few)
 
   pub last_asks : (before rs cs : List ℕ) → before ≡ marks_to (sheet_in s y) (take n states) (y.nodes - 1) → rs ≡ pad state_limit [] → cs ≡ pad state_limit []
-      → Model positions_limit joints_limit n starting following counting × (n ≤ length before) × (n ≤ length rs) × (n ≤ length cs) × (y.nodes - 1 < 64)
-  last_asks before rs cs e f g = let (m, a, b) = steps.future_asks ready k last_below before e in (m, a, empty_long rs f, empty_long cs g, b)
+      → (n ≤ length before) × (n ≤ length rs) × (n ≤ length cs) × (y.nodes - 1 < 64)
+  last_asks before rs cs e f g = let (a, b) = steps.bit_asks ready k last_below before e in (a, empty_long rs f, empty_long cs g, b)
 
   -- the last node, which asks q
   module _ (q : Question) (asks : q ≡ question_of (node_at s (y.first + 6 * (y.nodes - 1)))) (before : List ℕ)
@@ -142,17 +146,17 @@ module _ {s : List ℕ} {y : Layout} {n : ℕ} {states views starting following 
         (omega (arith, count s y ready.asked.sheet, some_node s y ready.asked.sheet)) in
         (a.rounds_long, a.choices_long)
 
-    pub other_rounds : goal_of q ≡ Other → rs ≡ pad state_limit (answer (rules_of (sheet_in s y)) (nodes_of (sheet_in s y)) (take n states)).rounds
+    pub other_rounds : goal_of q ≡ None → rs ≡ pad state_limit (answer (rules_of (sheet_in s y)) (nodes_of (sheet_in s y)) (take n states)).rounds
     other_rounds e =
         rs_zero ∙ pad_zeros state_limit (length l) few
         ∙ ap (pad state_limit) (sym (ap (λ x. rounds_for R nodes l (atl.node_at nodes x)) at_end ∙ ap (rounds_for R nodes l) node ∙ (other_is R nodes l k q e).0))
 
-    pub other_choices : goal_of q ≡ Other → cs ≡ pad state_limit (answer (rules_of (sheet_in s y)) (nodes_of (sheet_in s y)) (take n states)).choices
+    pub other_choices : goal_of q ≡ None → cs ≡ pad state_limit (answer (rules_of (sheet_in s y)) (nodes_of (sheet_in s y)) (take n states)).choices
     other_choices e =
         cs_zero ∙ pad_zeros state_limit (length l) few
         ∙ ap (pad state_limit) (sym (ap (λ x. choices_for R nodes l (atl.node_at nodes x)) at_end ∙ ap (choices_for R nodes l) node ∙ (other_is R nodes l k q e).1))
 
-    module _ (c a : ℕ) (e : goal_of q ≡ Reach c a) where
+    module _ (c a : ℕ) (e : goal_of q ≡ Some (reach c a)) where
       pub reach_marks : (after : List ℕ) → after ≡ noted n k (marked (eventually (in_counts n starting following counting c) (bits before a))) before
           → after ≡ marks_to (sheet_in s y) (take n states) y.nodes
       unfolding timed

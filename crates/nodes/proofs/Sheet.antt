@@ -11,7 +11,7 @@ use Rattle.sheet.specs.Fields.{Fits}
 use Rattle.sheet.specs.Question.{question_of}
 use Rattle.sheet.specs.Reading.{read_sheet, sheet_in}
 use Rattle.sheet.specs.declared.Layout.{Layout}
-use Rattle.sheet.specs.declared.Answer.TheVariants.{Accepted}
+use Rattle.std.specs.Prelude.{Ok}
 use Rattle.sheet.specs.declared.question.Question.{Question}
 use Rattle.sheet.proofs.Exact.{Exact, exact, nodes_length}
 use Rattle.meaning.specs.Atl as atl
@@ -25,7 +25,7 @@ from_at s zero at k h = absurd (not-suc-le-zero h)
 from_at s (suc n) at zero h = ap (node_at s) (sym (add-zero at))
 from_at s (suc n) at (suc k) h = from_at s n (at + 6) k (le_of_suc-le-suc h) ∙ ap (node_at s) (omega arith)
 
-module _ (s : List ℕ) (y : Layout) (read : read_sheet s ≡ Accepted y) where
+module _ (s : List ℕ) (y : Layout) (read : read_sheet s ≡ Ok y) where
   whole : Exact s y
   whole = exact s y read
 

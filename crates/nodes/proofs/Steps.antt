@@ -15,6 +15,7 @@ use Rattle.sheet.specs.declared.question.Future.{Future}
 use Rattle.sheet.specs.declared.question.Future.TheVariants.{Next, Always, Eventually, Until}
 use Rattle.sheet.specs.declared.question.Question.{Question}
 use Rattle.sheet.specs.declared.question.Question.TheVariants.{Not, And, Or, Can}
+use Rattle.sheet.specs.declared.question.Question.TheVariants as question
 use Rattle.atl.specs.Game.{States, everything}
 use Rattle.atl.specs.Marking.{marked, rounds, plan}
 use Rattle.meaning.specs.Rules.{Rules, options, moves}
@@ -33,7 +34,7 @@ use Rattle.model.specs.Answers.{Accepts}
 use Rattle.incoming.specs.Owners.{Moves}
 use Rattle.marking.specs.Rule.{bits}
 use Rattle.marks.specs.Noted.{noted}
-use Rattle.marks.specs.Model.{positions_limit, joints_limit, Model, in_counts}
+use Rattle.marks.specs.Model.{Model, in_counts}
 use Rattle.marks.specs.Node as marks
 use Rattle.marks.specs.Node.{timed}
 use Rattle.marks.specs.Held.{Held, Marked}
@@ -49,6 +50,22 @@ kind_same (Next a) = refl
 kind_same (Always a) = refl
 kind_same (Eventually a) = refl
 kind_same (Until a b) = refl
+
+-- a question that is none of these is a plain test
+pub plain_test : (k : ℕ) (q : Question) → ((a : ℕ) → q ≡ Not a → ⊥) → ((a b : ℕ) → q ≡ And a b → ⊥) → ((a b : ℕ) → q ≡ Or a b → ⊥) → ((c : ℕ) (f : Future) → q ≡ Can c f → ⊥)
+    → node_of k q ≡ TEST k
+unfolding node_of
+plain_test k (Not a) n m o p = absurd (n a refl)
+plain_test k (And a b) n m o p = absurd (m a b refl)
+plain_test k (Or a b) n m o p = absurd (o a b refl)
+plain_test k (Can c f) n m o p = absurd (p c f refl)
+plain_test k question.Unknown n m o p = refl
+plain_test k question.True n m o p = refl
+plain_test k (question.Fact f) n m o p = refl
+plain_test k (question.View v) n m o p = refl
+plain_test k (question.Legal role move) n m o p = refl
+plain_test k (question.Goal role value) n m o p = refl
+plain_test k question.Terminal n m o p = refl
 
 module _ {s : List ℕ} {y : Layout} {n : ℕ} {states views starting following counting : List ℕ} (ready : Ready s y n states views starting following counting) where
   abbrev d : Sheet
@@ -79,7 +96,7 @@ module _ {s : List ℕ} {y : Layout} {n : ℕ} {states views starting following 
   few = (tables.is_model model).few
 
   -- the tables are a model
-  modelled : Model state_limit move_limit n starting following counting
+  pub modelled : Model state_limit move_limit n starting following counting
   modelled = tables.modelled model four distinct
 
   -- what is asked to index who leads where
@@ -122,9 +139,6 @@ module _ {s : List ℕ} {y : Layout} {n : ℕ} {states views starting following 
       bit_asks =
           let e = ap length so_far ∙ marks_long d l few k in
           (omega (arith, e, tables.few model), omega (arith, few_nodes s y ready.asked.sheet))
-
-      pub future_asks : Model positions_limit joints_limit n starting following counting × (n ≤ length before) × (k < 64)
-      future_asks = (modelled, bit_asks.0, bit_asks.1)
 
       pub test_asks : (rules_end s y.top y.rules ≤ length s) × (n ≤ length states) × (n ≤ length views) × (n ≤ length before) × (k < 64)
       test_asks = (rules_within s y ready.asked.sheet, omega (arith, tables.few model, tables.states_long model), ready.views_long, bit_asks.0, bit_asks.1)

@@ -1,12 +1,11 @@
 -- What the question is asked of: a sheet as it was read, and the model of its game in the lent tables.
-use Rattle.std.specs.Prelude.{◌≡◌, List, Bool, ℕ, ◌≤◌, ◌<◌, get_or, length}
+use Rattle.std.specs.Prelude.{◌≡◌, List, Bool, ℕ, ◌≤◌, ◌<◌, get_or, length, Ok}
 use Rattle.facts.specs.Pack.{pack}
 use Rattle.tables.specs.Lengths.{state_limit, move_limit}
 use Rattle.tables.specs.Pad.{pad}
 use Rattle.sheet.specs.Data.{Sheet}
 use Rattle.sheet.specs.Reading.{read_sheet, sheet_in}
 use Rattle.sheet.specs.declared.Layout.{Layout}
-use Rattle.sheet.specs.declared.Answer.TheVariants.{Accepted}
 use Rattle.rules.specs.declared.Look.{Look}
 use Rattle.views.specs.Sheet.{masks_of, views_at}
 use Rattle.atl.specs.Bounded.{tabulate}
@@ -19,7 +18,7 @@ use Rattle.model.specs.Answers.{Accepts}
 
 -- The bytes were read as a sheet, and the tables hold the model of its game, as it was accepted; the positions are the first n states.
 pub record Asked (s : List ℕ) (y : Layout) (n : ℕ) (states views starting following counting : List ℕ) : Type 0 where
-  pub sheet : read_sheet s ≡ Accepted y
+  pub sheet : read_sheet s ≡ Ok y
   pub moves : ℕ
   pub model : Accepts (rules_of (sheet_in s y)) (views_of (sheet_in s y)) state_limit move_limit n moves states starting following counting views
 

@@ -10,229 +10,172 @@ ghost use Rattle.sheet.specs.Reading.{sheet_in};
 ghost use Rattle.meaning.specs.Reference.{answer};
 ghost use Rattle.position.specs.Meaning.{nodes_of};
 ghost use Rattle.position.specs.Position.{says, rules_of};
-ghost use Rattle.incoming.specs.Owners.{Incoming};
-ghost use Rattle.marks.specs.Model.{positions_limit, joints_limit};
+ghost use Rattle.incoming.specs.Leads.{Leads};
+ghost use Rattle.marks.specs.Coalition.{SameTables};
 ghost use Rattle.marks.specs.Noted.{noted};
 ghost use Rattle.nodes.specs.Asked.{Asked, Ready, look_held, marks_to, Answered};
-ghost use Rattle.nodes.specs.Goal.{goal_of, reach_of};
+ghost use Rattle.nodes.specs.Goal.{goal_of};
+ghost use Rattle.nodes.specs.Held.{sheet_of, looks, ReadyFor};
 
 use facts::FactSet;
-use incoming::build_incoming;
-use marking::bit;
-use marks::{mark, mark_and, mark_future, mark_last, mark_not, mark_or};
+use incoming::{Incoming, build_incoming};
+use marks::{
+    Answer, Arena, Coalition, Room, mark_and, mark_future, mark_last, mark_not, mark_or, note,
+};
 use position::test_at;
-use rules::{Look, wide};
+use radix::Joints;
+use rules::Look;
 use sheet::Layout;
 use sheet::question::{Future, Question, question_at};
+use sheet::record::Rules;
 
 // The goal of a last node that is EVENTUALLY: its coalition and its operand.
 #[derive(Clone, Copy)]
-pub enum Goal {
-    Reach(u8, u8),
-    Other,
+pub struct Reach {
+    pub coalition: u8,
+    pub goal: u8,
+}
+
+// A sheet as it was read, and the facts and the views of each position of its model.
+#[derive(Clone, Copy)]
+struct Held<'a> {
+    bytes: &'a [u8],
+    layout: Layout,
+    states: &'a [u64],
+    views: &'a [u64],
 }
 
 // ---- plain tests
 
-// What a plain test says of position i.
-fn test(s: &[u8], y: Layout, states: &[u64], views: &[u64], q: Question, i: usize) -> bool
-    requires { (rules_end s.now y.top y.rules ≤ length s.now) × (i < length states.now) × (i < length views.now) }
-    ensures { result ≡ says (sheet_in s.now y).rules (look_held states.now views.now i) q }
-{
-    let top = y.top;
-    let rules = y.rules;
-    let x = states[i];
-    let v = views[i];
-    let look = Look {
-        facts: FactSet { bits: x },
-        views: FactSet { bits: v },
-        moves: [0; 4],
-    };
-    test_at(s, top, rules, look, q)
-}
+impl Held<'_> {
+    // What the literals of a plain test are read off in position i.
+    fn look(&self, i: usize) -> Look
+        requires { (i < length self.now.states.now) × (i < length self.now.views.now) }
+        ensures { result ≡ looks self.now i }
+    {
+        let x = self.states[i];
+        let v = self.views[i];
+        Look {
+            facts: FactSet::from(x),
+            views: FactSet::from(v),
+            moves: [0; 4],
+        }
+    }
 
-// A plain test: bit k where it holds.
-fn mark_test(
-    s: &[u8],
-    y: Layout,
-    n: usize,
-    states: &[u64],
-    views: &[u64],
-    q: Question,
-    k: u8,
-    marks: &mut [u64],
-)
-    requires { (rules_end s.now y.top y.rules ≤ length s.now) × (n ≤ length states.now) × (n ≤ length views.now) × (n ≤ length marks.old) × (k < 64) }
-    ensures { marks.new ≡ noted n k (λ i. says (sheet_in s.now y).rules (look_held states.now views.now i) q) marks.old }
-{
-    let mut i: usize = 0;
-    while i < n {
-        let on = test(s, y, states, views, q, i);
-        mark(marks, k, i, on);
-        i += 1;
+    // A plain test: bit k where it holds.
+    fn mark_test(&self, n: usize, q: Question, k: u8, marks: &mut [u64])
+        requires { (rules_end self.now.bytes.now self.now.layout.top self.now.layout.rules ≤ length self.now.bytes.now)
+            × (n ≤ length self.now.states.now) × (n ≤ length self.now.views.now) × (n ≤ length marks.old) × (k < 64) }
+        ensures { marks.new ≡ noted n k (λ i. says (sheet_of self.now).rules (looks self.now i) q) marks.old }
+    {
+        let rules = Rules::of(self.bytes, self.layout.top, self.layout.rules);
+        note(n, k, marks, |i, _| test_at(rules, self.look(i), q));
+    }
+
+    // What node k asks.
+    fn asked_at(&self, k: u8) -> Question
+        requires { self.now.layout.first + 6 * k + 6 ≤ length self.now.bytes.now }
+        ensures { result ≡ question_of (node_at self.now.bytes.now (self.now.layout.first + 6 * k)) }
+    {
+        question_at(self.bytes, self.layout.first + 6 * usize::from(k))
     }
 }
 
 // ---- node by node
 
-// What node k asks.
-fn asked_at(s: &[u8], y: Layout, k: u8) -> Question
-    requires { y.first + 6 * k + 6 ≤ length s.now }
-    ensures { result ≡ question_of (node_at s.now (y.first + 6 * k)) }
-{
-    let first = y.first;
-    question_at(s, first + 6 * wide(k))
-}
-
 // Node k, from the marks of the nodes before it.
-fn mark_node(
-    s: &[u8],
-    y: Layout,
-    n: usize,
-    states: &[u64],
-    views: &[u64],
-    starts: &[u16],
-    successors: &[u16],
-    counts: &[u16],
-    froms: &[u16],
-    index: &[u16],
-    owners: &[u16],
-    k: u8,
-    marks: &mut [u64],
-    classes: &mut [u16],
-    work: &mut [u16],
-    table: &mut [u16],
-)
-    requires { Ready s.now y n states.now views.now starts.now successors.now counts.now × (k < y.nodes) × (marks.old ≡ marks_to (sheet_in s.now y) (take n states.now) k)
-        × Incoming n starts.now successors.now froms.now index.now owners.now
-        × (joints_limit ≤ length classes.old) × (joints_limit ≤ length work.old) × (positions_limit ≤ length table.old) }
-    ensures { marks.new ≡ marks_to (sheet_in s.now y) (take n states.now) (k + 1) }
+fn mark_node(held: Held, arena: Arena, k: u8, marks: &mut [u64], room: &mut Room)
+    requires { ReadyFor held arena × (k < held.layout.nodes) × (marks.old ≡ marks_to (sheet_of held) (take arena.joints.n held.states.now) k) }
+    ensures { marks.new ≡ marks_to (sheet_of held.entry) (take arena.entry.joints.n held.entry.states.now) (k + 1) }
 {
-    let q = asked_at(s, y, k);
+    let n = arena.joints.n;
+    let q = held.asked_at(k);
     match q {
         Question::Not(a) => mark_not(n, a, k, marks),
         Question::And(a, b) => mark_and(n, a, b, k, marks),
         Question::Or(a, b) => mark_or(n, a, b, k, marks),
-        Question::Can(c, f) => mark_future(
-            n, starts, successors, counts, froms, index, owners, c, f, k, marks, classes, work,
-            table,
-        ),
-        Question::True => mark_test(s, y, n, states, views, q, k, marks),
-        Question::Fact(f) => mark_test(s, y, n, states, views, q, k, marks),
-        Question::View(v) => mark_test(s, y, n, states, views, q, k, marks),
-        Question::Legal(role, m) => mark_test(s, y, n, states, views, q, k, marks),
-        Question::Goal(role, v) => mark_test(s, y, n, states, views, q, k, marks),
-        Question::Terminal => mark_test(s, y, n, states, views, q, k, marks),
-        Question::Unknown => mark_test(s, y, n, states, views, q, k, marks),
+        Question::Can(mask, future) => {
+            let coalition = Coalition { arena, mask };
+            mark_future(coalition, future, k, marks, room);
+        }
+        _ => held.mark_test(n, q, k, marks),
     }
 }
 
 // Every node but the last, in number order.
-fn mark_first(
-    s: &[u8],
-    y: Layout,
-    n: usize,
-    states: &[u64],
-    views: &[u64],
-    starts: &[u16],
-    successors: &[u16],
-    counts: &[u16],
-    froms: &[u16],
-    index: &[u16],
-    owners: &[u16],
-    marks: &mut [u64],
-    classes: &mut [u16],
-    work: &mut [u16],
-    table: &mut [u16],
-)
-    requires { Ready s.now y n states.now views.now starts.now successors.now counts.now × (marks.old ≡ pad state_limit [])
-        × Incoming n starts.now successors.now froms.now index.now owners.now
-        × (joints_limit ≤ length classes.old) × (joints_limit ≤ length work.old) × (positions_limit ≤ length table.old) }
-    ensures { marks.new ≡ marks_to (sheet_in s.now y) (take n states.now) (y.nodes - 1) }
+fn mark_first(held: Held, arena: Arena, marks: &mut [u64], room: &mut Room)
+    requires { ReadyFor held arena × (marks.old ≡ pad state_limit []) }
+    ensures { marks.new ≡ marks_to (sheet_of held.entry) (take arena.entry.joints.n held.entry.states.now) (held.entry.layout.nodes - 1) }
 {
-    let last = y.nodes - 1;
-    let mut k: u8 = 0;
-    while k < last {
-        mark_node(
-            s, y, n, states, views, starts, successors, counts, froms, index, owners, k, marks,
-            classes, work, table,
-        );
-        k += 1;
+    let last = held.layout.nodes - 1;
+    for k in 0..last {
+        mark_node(held, arena, k, marks, room);
     }
 }
 
-// The goal of a node, if it is the last one.
-fn goal_of(q: Question) -> Goal
+// The goal of a node, if it is the last one: only EVENTUALLY has rounds and choices.
+fn goal_of(q: Question) -> Option<Reach>
     ensures { result ≡ goal_of q }
 {
     match q {
-        Question::Can(c, f) => reach_of(c, f),
-        Question::Unknown => Goal::Other,
-        Question::True => Goal::Other,
-        Question::Fact(f) => Goal::Other,
-        Question::View(v) => Goal::Other,
-        Question::Legal(role, m) => Goal::Other,
-        Question::Goal(role, v) => Goal::Other,
-        Question::Terminal => Goal::Other,
-        Question::Not(a) => Goal::Other,
-        Question::And(a, b) => Goal::Other,
-        Question::Or(a, b) => Goal::Other,
-    }
-}
-
-// Of a coalition's future: only EVENTUALLY has rounds and choices.
-fn reach_of(c: u8, f: Future) -> Goal
-    ensures { result ≡ reach_of c f }
-{
-    match f {
-        Future::Eventually(a) => Goal::Reach(c, a),
-        Future::Next(a) => Goal::Other,
-        Future::Always(a) => Goal::Other,
-        Future::Until(a, b) => Goal::Other,
+        Question::Can(coalition, Future::Eventually(goal)) => Some(Reach { coalition, goal }),
+        _ => None,
     }
 }
 
 // The last node; where it is EVENTUALLY, its rounds and choices too.
-fn mark_end(
-    s: &[u8],
-    y: Layout,
-    n: usize,
-    states: &[u64],
-    views: &[u64],
-    starts: &[u16],
-    successors: &[u16],
-    counts: &[u16],
-    froms: &[u16],
-    index: &[u16],
-    owners: &[u16],
-    marks: &mut [u64],
-    rounds: &mut [u16],
-    choices: &mut [u16],
-    classes: &mut [u16],
-    work: &mut [u16],
-    table: &mut [u16],
-)
-    requires { Ready s.now y n states.now views.now starts.now successors.now counts.now × (marks.old ≡ marks_to (sheet_in s.now y) (take n states.now) (y.nodes - 1))
-        × (rounds.old ≡ pad state_limit []) × (choices.old ≡ pad state_limit [])
-        × Incoming n starts.now successors.now froms.now index.now owners.now
-        × (joints_limit ≤ length classes.old) × (joints_limit ≤ length work.old) × (positions_limit ≤ length table.old) }
-    ensures { (marks.new ≡ marks_to (sheet_in s.now y) (take n states.now) y.nodes)
-        × (rounds.new ≡ pad state_limit (answer (rules_of (sheet_in s.now y)) (nodes_of (sheet_in s.now y)) (take n states.now)).rounds)
-        × (choices.new ≡ pad state_limit (answer (rules_of (sheet_in s.now y)) (nodes_of (sheet_in s.now y)) (take n states.now)).choices) }
+fn mark_end(held: Held, arena: Arena, tables: &mut Answer, room: &mut Room)
+    requires { ReadyFor held arena × (tables.old.marks.now ≡ marks_to (sheet_of held) (take arena.joints.n held.states.now) (held.layout.nodes - 1))
+        × (tables.old.rounds.now ≡ pad state_limit []) × (tables.old.choices.now ≡ pad state_limit []) }
+    ensures marks { tables.new.marks.now ≡ marks_to (sheet_of held.entry) (take arena.entry.joints.n held.entry.states.now) held.entry.layout.nodes }
+    ensures rounds { tables.new.rounds.now ≡ pad state_limit (answer (rules_of (sheet_of held.entry)) (nodes_of (sheet_of held.entry)) (take arena.entry.joints.n held.entry.states.now)).rounds }
+    ensures choices { tables.new.choices.now ≡ pad state_limit (answer (rules_of (sheet_of held.entry)) (nodes_of (sheet_of held.entry)) (take arena.entry.joints.n held.entry.states.now)).choices }
+    ensures same { SameTables tables.old tables.new }
 {
-    let k = y.nodes - 1;
-    let q = asked_at(s, y, k);
-    let goal = goal_of(q);
-    match goal {
-        Goal::Reach(c, a) => mark_last(
-            n, starts, successors, counts, froms, index, owners, c, a, k, marks, rounds, choices,
-            classes, work,
-        ),
-        Goal::Other => mark_node(
-            s, y, n, states, views, starts, successors, counts, froms, index, owners, k, marks,
-            classes, work, table,
-        ),
+    let k = held.layout.nodes - 1;
+    match goal_of(held.asked_at(k)) {
+        Some(
+            Reach {
+                coalition: mask,
+                goal,
+            },
+        ) => {
+            let coalition = Coalition { arena, mask };
+            mark_last(coalition, goal, k, tables, room);
+        }
+        None => mark_node(held, arena, k, tables.marks, room),
     }
+}
+
+// All nodes over the model, and the verdict.
+fn mark_all<'a>(
+    held: Held,
+    joints: Joints<'a>,
+    counts: &'a [u16],
+    incoming: Incoming<'a>,
+    tables: &mut Answer,
+) -> bool
+    requires { Asked held.bytes.now held.layout joints.n held.states.now held.views.now joints.starts.now joints.successors.now counts.now × Leads joints incoming
+        × (tables.old.marks.now ≡ pad state_limit []) × (tables.old.rounds.now ≡ pad state_limit []) × (tables.old.choices.now ≡ pad state_limit []) }
+    ensures answered { Answered (answer (rules_of (sheet_of held.entry)) (nodes_of (sheet_of held.entry)) (take joints.entry.n held.entry.states.now)) result
+        tables.new.marks.now tables.new.rounds.now tables.new.choices.now }
+    ensures same { SameTables tables.old tables.new }
+{
+    let arena = Arena {
+        joints,
+        counts,
+        incoming,
+    };
+    let mut classes = [0; 8192];
+    let mut flags = [0; 8192];
+    let mut room = Room {
+        classes: &mut classes,
+        flags: &mut flags,
+    };
+    mark_first(held, arena, tables.marks, &mut room);
+    mark_end(held, arena, tables, &mut room);
+    let last = held.layout.nodes - 1;
+    FactSet::from(tables.marks[0]).has(last)
 }
 
 // The question answered over a model that is in the tables: marks, rounds, choices and the verdict. The room that the marking works in stands here once.
@@ -253,49 +196,30 @@ pub fn answer(
         × (marks.old ≡ pad state_limit []) × (rounds.old ≡ pad state_limit []) × (choices.old ≡ pad state_limit []) }
     ensures { Answered (answer (rules_of (sheet_in s.now y)) (nodes_of (sheet_in s.now y)) (take n states.now)) result marks.new rounds.new choices.new }
 {
-    let mut froms = [0u16; 1025];
-    let mut index = [0u16; 8192];
-    let mut owners = [0u16; 8192];
-    build_incoming(n, starts, successors, &mut froms, &mut index, &mut owners);
-    let mut classes = [0u16; 8192];
-    let mut work = [0u16; 8192];
-    let mut table = [0u16; 1024];
-    mark_first(
-        s,
-        y,
+    let joints = Joints {
         n,
-        states,
-        views,
         starts,
         successors,
-        counts,
-        &froms,
-        &index,
-        &owners,
-        marks,
-        &mut classes,
-        &mut work,
-        &mut table,
-    );
-    mark_end(
-        s,
-        y,
-        n,
+    };
+    let mut froms = [0; 1025];
+    let mut index = [0; 8192];
+    let mut owners = [0; 8192];
+    build_incoming(joints, &mut froms, &mut index, &mut owners);
+    let incoming = Incoming {
+        froms: &froms,
+        index: &index,
+        owners: &owners,
+    };
+    let held = Held {
+        bytes: s,
+        layout: y,
         states,
         views,
-        starts,
-        successors,
-        counts,
-        &froms,
-        &index,
-        &owners,
+    };
+    let mut tables = Answer {
         marks,
         rounds,
         choices,
-        &mut classes,
-        &mut work,
-        &mut table,
-    );
-    let last = y.nodes - 1;
-    bit(marks, last, 0)
+    };
+    mark_all(held, joints, counts, incoming, &mut tables)
 }

@@ -8,47 +8,46 @@ use Rattle.nodes.proofs.Ending.{last_below, all_nodes, last_asks, other_rounds, 
 use Rattle.nodes.proofs.mark_end.Goals as goal
 
 pub overflow_sub-k : goal.overflow_sub-k
-overflow_sub-k c =
-    let pre = c.requires in
-    let z = some_node _ _ pre.0.asked.sheet in omega arith
+overflow_sub-k c = let z = some_node _ _ c.requires.0.asked.sheet in omega arith
 
-pub asked_at-q-requires : goal.asked_at-q-requires
-asked_at-q-requires c =
-    let pre = c.requires in
-    let args = c.args in
-    node_asks pre.0 (args.y.nodes - 1) (last_below pre.0)
+pub asked_at-requires : goal.asked_at-requires
+asked_at-requires c = node_asks c.requires.0 (c.args.held.layout.nodes - 1) (last_below c.requires.0)
 
 pub mark_last-requires : goal.mark_last-requires
 mark_last-requires c =
-    let pre = c.requires in
-    let args = c.args in
-    let (m, a, b, d, e) = last_asks pre.0 args.marks.now args.rounds.now args.choices.now pre.1 pre.2 pre.3 in
-    (m, a, b, d, e, pre.4, pre.5, pre.6)
+    let now = c.args.tables.now in
+    last_asks c.requires.0 now.marks.now now.rounds.now now.choices.now c.requires.1 c.requires.2 c.requires.3
 
 pub mark_node-requires : goal.mark_node-requires
-mark_node-requires c =
-    let pre = c.requires in
-    (pre.0, last_below pre.0, pre.1, pre.4, pre.5, pre.6, pre.7)
+mark_node-requires c = (c.requires.0, last_below c.requires.0, c.requires.1)
 
-pub returns-in-Reach : goal.returns-in-Reach
-returns-in-Reach c =
-    let pre = c.requires in
-    let args = c.args in
-    let asked-at = c.asked_at-q in
-    let mark-last = c.mark_last in
-    let reaches = sym c.goal_of-goal.ensures ∙ c.in-Reach.is in (
-      reach_marks pre.0 _ asked-at.ensures args.marks.now pre.1 args.rounds.now args.choices.now pre.2 pre.3 _ _ reaches _ mark-last.ensures.2,
-      reach_rounds pre.0 _ asked-at.ensures args.marks.now pre.1 args.rounds.now args.choices.now pre.2 pre.3 _ _ reaches _ mark-last.ensures.0,
-      reach_choices pre.0 _ asked-at.ensures args.marks.now pre.1 args.rounds.now args.choices.now pre.2 pre.3 _ _ reaches _ mark-last.ensures.1,
-    )
+pub returns-in-Some-clause-marks : goal.returns-in-Some-clause-marks
+returns-in-Some-clause-marks c =
+    let now = c.args.tables.now in
+    let reaches = sym c.goal_of.ensures ∙ c.in-Some.is in
+    reach_marks c.requires.0 _ c.asked_at.ensures now.marks.now c.requires.1 now.rounds.now now.choices.now c.requires.2 c.requires.3 c.in-Some.field-0.coalition c.in-Some.field-0.goal reaches _ c.mark_last.ensures.marks
 
-pub returns-in-Other : goal.returns-in-Other
-returns-in-Other c =
-    let pre = c.requires in
-    let args = c.args in
-    let asked-at = c.asked_at-q in
-    let other = sym c.goal_of-goal.ensures ∙ c.in-Other.is in (
-      all_nodes pre.0 c.mark_node.ensures,
-      other_rounds pre.0 _ asked-at.ensures args.marks.now pre.1 args.rounds.now args.choices.now pre.2 pre.3 other,
-      other_choices pre.0 _ asked-at.ensures args.marks.now pre.1 args.rounds.now args.choices.now pre.2 pre.3 other,
-    )
+pub returns-in-Some-clause-rounds : goal.returns-in-Some-clause-rounds
+returns-in-Some-clause-rounds c =
+    let now = c.args.tables.now in
+    let reaches = sym c.goal_of.ensures ∙ c.in-Some.is in
+    reach_rounds c.requires.0 _ c.asked_at.ensures now.marks.now c.requires.1 now.rounds.now now.choices.now c.requires.2 c.requires.3 c.in-Some.field-0.coalition c.in-Some.field-0.goal reaches _ c.mark_last.ensures.rounds
+
+pub returns-in-Some-clause-choices : goal.returns-in-Some-clause-choices
+returns-in-Some-clause-choices c =
+    let now = c.args.tables.now in
+    let reaches = sym c.goal_of.ensures ∙ c.in-Some.is in
+    reach_choices c.requires.0 _ c.asked_at.ensures now.marks.now c.requires.1 now.rounds.now now.choices.now c.requires.2 c.requires.3 c.in-Some.field-0.coalition c.in-Some.field-0.goal reaches _ c.mark_last.ensures.choices
+
+pub returns-in-None-clause-marks : goal.returns-in-None-clause-marks
+returns-in-None-clause-marks c = all_nodes c.requires.0 c.mark_node.ensures
+
+pub returns-in-None-clause-rounds : goal.returns-in-None-clause-rounds
+returns-in-None-clause-rounds c =
+    let now = c.args.tables.now in
+    other_rounds c.requires.0 _ c.asked_at.ensures now.marks.now c.requires.1 now.rounds.now now.choices.now c.requires.2 c.requires.3 (sym c.goal_of.ensures ∙ c.in-None.is)
+
+pub returns-in-None-clause-choices : goal.returns-in-None-clause-choices
+returns-in-None-clause-choices c =
+    let now = c.args.tables.now in
+    other_choices c.requires.0 _ c.asked_at.ensures now.marks.now c.requires.1 now.rounds.now now.choices.now c.requires.2 c.requires.3 (sym c.goal_of.ensures ∙ c.in-None.is)
