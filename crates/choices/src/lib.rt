@@ -22,19 +22,6 @@ pub fn count(set: u16) -> u32
     set.count_ones()
 }
 
-// The product of the roles' counts.
-#[tactic(auto, using(crate::specs::Laws::total_take, crate::specs::Laws::total_four, crate::specs::Laws::count_le), unfolding(crate::specs::Moves::total))]
-pub fn product(sets: &[u16]) -> u32
-    requires { length sets.now ≤ 4 }
-    ensures { result ≡ total sets.now }
-{
-    let mut n = 1;
-    for set in sets {
-        n *= count(*set);
-    }
-    n
-}
-
 // Does the set have 0 and all up to k?
 #[tactic(auto, using(crate::proofs::Full::full_is, crate::proofs::Full::divisor_pos))]
 pub fn is_full(set: u16, k: u32) -> bool
@@ -76,32 +63,54 @@ pub fn below(set: u16, m: u16) -> u32
     }
 }
 
-// The move of each role in joint move j, the first role slowest; 0 for the roles that take no part.
-pub fn joint_move(sets: &[u16], j: u32) -> Moves
-    requires { (length sets.now ≤ 4) × (j < total sets.now) }
-    ensures { result ≡ four (decode sets.now j) }
-{
-    let mut out = [0; 4];
-    let mut rest = j;
-    let mut weight = product(sets);
-    for (p, set) in sets.iter().enumerate() {
-        weight /= count(*set);
-        out[p] = nth(*set, rest / weight).unwrap();
-        rest %= weight;
-    }
-    out
+// ---- joint moves
+
+// The sets of the roles that take part, four at most.
+#[derive(Clone, Copy)]
+pub struct Sets<'a> {
+    pub sets: &'a [u16],
+    pub ghost few: { length sets.now ≤ 4 },
 }
 
-// The number of a joint move.
-pub fn number_of(sets: &[u16], moves: &[u16]) -> u32
-    requires { length sets.now ≤ 4 }
-    ensures { result ≡ encode sets.now moves.now 0 }
-{
-    let mut n = 0;
-    for (set, m) in sets.iter().zip(moves) {
-        n = n * count(*set) + below(*set, *m);
+impl<'a> Sets<'a> {
+    // The product of the roles' counts.
+    #[tactic(auto, using(crate::specs::Laws::total_take, crate::specs::Laws::total_four, crate::specs::Laws::count_le), unfolding(crate::specs::Moves::total))]
+    pub fn product(self) -> u32
+        ensures { result ≡ total self.entry.sets.now }
+    {
+        let mut n = 1;
+        for set in self.sets {
+            n *= count(*set);
+        }
+        n
     }
-    n
+
+    // The move of each role in joint move j, the first role slowest; 0 for the roles that take no part.
+    pub fn joint_move(self, j: u32) -> Moves
+        requires { j < total self.sets.now }
+        ensures { result ≡ four (decode self.entry.sets.now j) }
+    {
+        let mut out = [0; 4];
+        let mut rest = j;
+        let mut weight = self.product();
+        for (p, set) in self.sets.iter().enumerate() {
+            weight /= count(*set);
+            out[p] = nth(*set, rest / weight).unwrap();
+            rest %= weight;
+        }
+        out
+    }
+
+    // The number of a joint move.
+    pub fn number_of(self, moves: &[u16]) -> u32
+        ensures { result ≡ encode self.entry.sets.now moves.now 0 }
+    {
+        let mut n = 0;
+        for (set, m) in self.sets.iter().zip(moves) {
+            n = n * count(*set) + below(*set, *m);
+        }
+        n
+    }
 }
 
 impl Choices {
@@ -110,7 +119,8 @@ impl Choices {
         requires { roles ≤ 4 }
         ensures { result ≡ total (take roles self.sets) }
     {
-        product(&self.sets[..roles])
+        let sets = &self.sets[..roles];
+        Sets { sets }.product()
     }
 
     // The joint move of number j: a move for each role.
@@ -118,6 +128,7 @@ impl Choices {
         requires { (roles ≤ 4) × (j < total (take roles self.sets)) }
         ensures { result ≡ four (decode (take roles self.sets) j) }
     {
-        joint_move(&self.sets[..roles], j)
+        let sets = &self.sets[..roles];
+        Sets { sets }.joint_move(j)
     }
 }
