@@ -27,7 +27,7 @@ pub use room::Room;
 use sheet::question::Future;
 
 // The entry of position `i` with bit `k`, where `on`.
-pub fn mark(marks: &mut [u64], k: u8, i: usize, on: bool)
+fn mark(marks: &mut [u64], k: u8, i: usize, on: bool)
     requires { (i < length marks.old) × (k < 64) }
     ensures { marks.new ≡ set marks.old i (add_if on (get_or marks.old i 0) k) }
 {
