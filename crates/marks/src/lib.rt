@@ -5,11 +5,13 @@ ghost use Rattle.std.specs.Prelude.{◌≡◌, true, false, not, Bool, ℕ, ◌&
 ghost use Rattle.facts.specs.Pack.{add_if};
 ghost use Rattle.atl.specs.Game.{States, everything};
 ghost use Rattle.atl.specs.Marking.{counted, force, marked, rounds as roundsOf, plan as plan_of, eventually as eventuallyOf};
+ghost use Rattle.radix.specs.Classes.{classed};
 ghost use Rattle.incoming.specs.Leads.{Leads};
 ghost use Rattle.marking.specs.Table.{side};
 ghost use Rattle.marking.specs.Board.{game_of, aimed, passable};
 ghost use Rattle.marking.specs.Rule.{bits};
 ghost use Rattle.marks.specs.Noted.{noted};
+ghost use Rattle.marks.specs.Model.{joints_limit};
 ghost use Rattle.marks.specs.Node.{timed};
 ghost use Rattle.backward.specs.Covered.{Covered};
 ghost use Rattle.marks.specs.Coalition.{meets, reaches, spread_counts, SameTables};
@@ -115,19 +117,22 @@ pub struct Answer<'a> {
     pub choices: &'a mut [u16],
 }
 
+// The classes of the joint moves for the coalition.
+fn classify(coalition: Coalition, classes: &mut [u16])
+    requires { joints_limit ≤ length classes.old }
+    ensures { classes.new ≡ classed coalition.entry.arena.joints.starts.now coalition.entry.arena.counts.now coalition.entry.mask classes.old coalition.entry.arena.joints.n }
+{
+    let Arena { joints, counts, .. } = coalition.arena;
+    fill_classes(joints.n, joints.starts, counts, coalition.mask, classes);
+}
+
 // NEXT of node `a`: bit `k`.
 fn mark_next(coalition: Coalition, a: u8, k: u8, marks: &mut [u64], room: &mut Room)
     requires { (coalition.arena.joints.n ≤ length marks.old) × (k < 64) }
     ensures { marks.new ≡ noted coalition.entry.arena.joints.n k (force (meets coalition.entry) (bits marks.old a)) marks.old }
 {
     let joints = coalition.arena.joints;
-    fill_classes(
-        joints.n,
-        joints.starts,
-        coalition.arena.counts,
-        coalition.mask,
-        room.classes,
-    );
+    classify(coalition, room.classes);
     let board = Board {
         joints,
         classes: room.classes,
@@ -184,13 +189,7 @@ fn mark_spread(
     ensures marks { marks.new ≡ noted coalition.entry.arena.joints.n k (side spread.want (counted (spread_counts (meets coalition.entry) marks.old spread) coalition.entry.arena.joints.n)) marks.old }
 {
     let joints = coalition.arena.joints;
-    fill_classes(
-        joints.n,
-        joints.starts,
-        coalition.arena.counts,
-        coalition.mask,
-        room.classes,
-    );
+    classify(coalition, room.classes);
     let board = Board {
         joints,
         classes: room.classes,
@@ -218,13 +217,7 @@ fn fill_choices(coalition: Coalition, rounds: &[u16], choices: &mut [u16], room:
     ensures { choices.new ≡ plan_of (meets coalition.entry) (take coalition.entry.arena.joints.n rounds.now) ++ drop coalition.entry.arena.joints.n choices.old }
 {
     let joints = coalition.arena.joints;
-    fill_classes(
-        joints.n,
-        joints.starts,
-        coalition.arena.counts,
-        coalition.mask,
-        room.classes,
-    );
+    classify(coalition, room.classes);
     let board = Board {
         joints,
         classes: room.classes,

@@ -3,20 +3,17 @@ use mathlib.Core.Path.{ap, ◌∙◌}
 use mathlib.Core.List.{◌++◌}
 use lib.ListN.{take, drop}
 use Rattle.atl.proofs.Same.{plan_same}
-use Rattle.marks.proofs.Games.{classes_asks, tables, same}
+use Rattle.marks.proofs.Games.{tables, same}
 use Rattle.marks.proofs.fill_choices.Goals as goal
-
-pub fill_classes-requires : goal.fill_classes-requires
-fill_classes-requires c = classes_asks c.args.coalition.arena.model c.args.coalition.mask c.args.room.now.classes.now c.args.room.now.classed
 
 pub invariant_of-board : goal.invariant_of-board
 invariant_of-board c = record {
-  tables = tables c.args.coalition.arena.model c.args.coalition.mask c.args.room.now.classes.now c.args.room.now.classed _ c.fill_classes.ensures;
+  tables = tables c.args.coalition.arena.model c.args.coalition.mask c.args.room.now.classes.now c.args.room.now.classed _ c.classify.ensures;
 }
 
 pub returns : goal.returns
 returns c =
     let n = c.args.coalition.arena.joints.n in
     ap (λ x. x ++ drop n c.args.choices.now)
-    (c.plan.ensures ∙ plan_same _ _ (same c.args.coalition.arena.model c.args.coalition.mask c.args.room.now.classes.now c.args.room.now.classed _ c.fill_classes.ensures)
+    (c.plan.ensures ∙ plan_same _ _ (same c.args.coalition.arena.model c.args.coalition.mask c.args.room.now.classes.now c.args.room.now.classed _ c.classify.ensures)
     (take n c.args.rounds.now))

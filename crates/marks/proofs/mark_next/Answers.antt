@@ -8,21 +8,18 @@ use lib.Seq.{length-take-le}
 use Rattle.atl.specs.Bounded.{tabulate}
 use Rattle.atl.specs.Marking.{unset}
 use Rattle.marking.specs.Rule.{bits}
-use Rattle.marks.proofs.Games.{classes_asks, tables, same_next}
+use Rattle.marks.proofs.Games.{tables, same_next}
 use Rattle.marks.proofs.mark_next.Goals as goal
-
-pub fill_classes-requires : goal.fill_classes-requires
-fill_classes-requires c = classes_asks c.args.coalition.arena.model c.args.coalition.mask c.args.room.now.classes.now c.args.room.now.classed
 
 pub invariant_of-board : goal.invariant_of-board
 invariant_of-board c = record {
-  tables = tables c.args.coalition.arena.model c.args.coalition.mask c.args.room.now.classes.now c.args.room.now.classed _ c.fill_classes.ensures;
+  tables = tables c.args.coalition.arena.model c.args.coalition.mask c.args.room.now.classes.now c.args.room.now.classed _ c.classify.ensures;
 }
 
 pub returns : goal.returns
 returns c =
     let n = c.args.coalition.arena.joints.n in
-    same_next c.args.coalition.arena.model c.args.coalition.mask c.args.room.now.classes.now c.args.room.now.classed _ c.fill_classes.ensures
+    same_next c.args.coalition.arena.model c.args.coalition.mask c.args.room.now.classes.now c.args.room.now.classed _ c.classify.ensures
     (bits c.args.marks.now c.args.a) _
     (c.begin.ensures ∙ ap (λ m. tabulate m (λ i. cond (bits c.args.marks.now c.args.a i) 0 unset)) (length-take-le n _ (omega (arith, c.args.coalition.arena.model.few, length-replicate {A = ℕ} 1024 0))))
     c.args.k c.args.marks.now _ c.mark_forced.ensures
