@@ -9,6 +9,7 @@ ghost use Rattle.codes.specs.Table.{width, word, sets_in, member_in, added_by, c
 ghost use Rattle.firing.specs.Firing.{settled_by, views_by, from_of, to_of, Level, Levels};
 
 use codes::Codes;
+use facts::FactSet;
 
 // The joint move that stands for no moves: move 0 for each role.
 pub const NO_MOVES: u64 = 0x0001_0001_0001_0001;
@@ -40,7 +41,7 @@ pub fn with_member(x: u64, m: u64) -> u64
     requires { m < bits }
     ensures { result ≡ insert x m }
 {
-    x | (1u64 << m)
+    u64::from(FactSet::from(x).with(m as u8))
 }
 
 // ---- one slot
