@@ -126,9 +126,16 @@ fn classify(coalition: Coalition, classes: &mut [u16])
     fill_classes(joints.n, joints.starts, counts, coalition.mask, classes);
 }
 
-// NEXT of node `a`: bit `k`.
-fn mark_next(coalition: Coalition, a: u8, k: u8, marks: &mut [u64], room: &mut Room)
-    requires { (coalition.arena.joints.n ≤ length marks.old) × (k < 64) }
+// NEXT of node `a`: bit `k`. The table of counts is lent, so that it stands once.
+fn mark_next(
+    coalition: Coalition,
+    a: u8,
+    k: u8,
+    marks: &mut [u64],
+    table: &mut [u16],
+    room: &mut Room,
+)
+    requires { (coalition.arena.joints.n ≤ length marks.old) × (coalition.arena.joints.n ≤ length table.old) × (k < 64) }
     ensures { marks.new ≡ noted coalition.entry.arena.joints.n k (force (meets coalition.entry) (bits marks.old a)) marks.old }
 {
     let joints = coalition.arena.joints;
@@ -137,7 +144,6 @@ fn mark_next(coalition: Coalition, a: u8, k: u8, marks: &mut [u64], room: &mut R
         joints,
         classes: room.classes,
     };
-    let mut table = [0; 1024];
     let rounds = &mut table[..joints.n];
     begin(Marked { marks, k: a }, true, rounds);
     let aim = Aim {
@@ -175,7 +181,7 @@ fn count_spread<'a>(
     count_rounds(ground, start, rounds, flags);
 }
 
-// UNTIL, EVENTUALLY and ALWAYS: the counts, and bit `k`.
+// UNTIL, EVENTUALLY and ALWAYS: the counts, and bit `k`. What it writes has nothing in common but this call.
 fn mark_spread(
     coalition: Coalition,
     spread: Spread,
@@ -237,7 +243,7 @@ pub fn mark_future(coalition: Coalition, future: Future, k: u8, marks: &mut [u64
 {
     let mut rounds = [0; 1024];
     match future {
-        Future::Next(a) => mark_next(coalition, a, k, marks, room),
+        Future::Next(a) => mark_next(coalition, a, k, marks, &mut rounds, room),
         Future::Always(from) => {
             let spread = Spread {
                 want: false,

@@ -147,7 +147,7 @@ fn mark_end(held: Held, arena: Arena, tables: &mut Answer, room: &mut Room)
     }
 }
 
-// All nodes over the model, and the verdict.
+// All nodes over the model, and the verdict. The room that the marking works in stands here once.
 fn mark_all<'a>(
     held: Held,
     joints: Joints<'a>,
@@ -178,7 +178,8 @@ fn mark_all<'a>(
     FactSet::from(tables.marks[0]).has(last)
 }
 
-// The question answered over a model that is in the tables: marks, rounds, choices and the verdict. The room that the marking works in stands here once.
+// The question answered over a model that is in the tables: marks, rounds, choices and the verdict. Its tables are lent one by one,
+// as the entry point is lent them.
 pub fn answer(
     s: &[u8],
     y: Layout,

@@ -1,9 +1,6 @@
 -- `marks::mark_next`: the table has 0 at the positions of the operand, so what secures count 0 secures them.
-use native.Mathlib.Omega.{arith}
 use mathlib.Core.Bool.{cond}
 use mathlib.Core.Path.{ap, ◌∙◌}
-use Prim.Native.Nat.{ℕ}
-use lib.ListN.{length-replicate}
 use lib.Seq.{length-take-le}
 use Rattle.atl.specs.Bounded.{tabulate}
 use Rattle.atl.specs.Marking.{unset}
@@ -21,5 +18,5 @@ returns c =
     let n = c.args.coalition.arena.joints.n in
     same_next c.args.coalition.arena.model c.args.coalition.mask c.args.room.now.classes.now c.args.room.now.classed _ c.classify.ensures
     (bits c.args.marks.now c.args.a) _
-    (c.begin.ensures ∙ ap (λ m. tabulate m (λ i. cond (bits c.args.marks.now c.args.a i) 0 unset)) (length-take-le n _ (omega (arith, c.args.coalition.arena.model.few, length-replicate {A = ℕ} 1024 0))))
+    (c.begin.ensures ∙ ap (λ m. tabulate m (λ i. cond (bits c.args.marks.now c.args.a i) 0 unset)) (length-take-le n _ c.requires.1))
     c.args.k c.args.marks.now _ c.mark_forced.ensures
