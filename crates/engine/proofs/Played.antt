@@ -19,7 +19,6 @@ use Rattle.position.specs.Meaning.{nodes_of}
 use Rattle.position.specs.Position.{rules_of}
 use Rattle.position.proofs.Nodes.{nodes_long, nodes_in_order}
 use Rattle.sheet.specs.declared.Layout.{Layout}
-use Rattle.sheet.specs.declared.Answer.TheVariants.{Accepted as Read}
 use Rattle.sheet.specs.Reading.{read_sheet, sheet_in}
 use Rattle.meaning.specs.Lists.{place, all}
 use Rattle.meaning.specs.Rules.{targets}
@@ -33,7 +32,7 @@ use Rattle.model.specs.Answers as model
 use Rattle.model.specs.Answers.{Accepts}
 use Rattle.nodes.specs.Asked.{Asked, Answered}
 use Rattle.engine.specs.declared.Refusal.{Refusal}
-use Rattle.std.specs.Prelude.{Err}
+use Rattle.std.specs.Prelude.{Ok, Err}
 use Rattle.engine.specs.Promise.{accepts, tables, RightLengths, zero_tables}
 use Rattle.engine.specs.Solved.{outcome, stop, told, played}
 
@@ -104,7 +103,7 @@ module _ (d : Sheet) (fit : Fits d) where
       ∙ played_accepted d fit l h.is_model
 
   -- what the question is asked of
-  pub asked : (s : List ℕ) (y : Layout) → read_sheet s ≡ Read y → sheet_in s y ≡ d → (n m : ℕ) (states starts successors counts views : List ℕ)
+  pub asked : (s : List ℕ) (y : Layout) → read_sheet s ≡ Ok y → sheet_in s y ≡ d → (n m : ℕ) (states starts successors counts views : List ℕ)
       → Accepts (rules_of d) (views_of d) state_limit move_limit n m states starts successors counts views → Asked s y n states views starts successors counts
   asked s y r same n m states starts successors counts views h = record {
     sheet = r;

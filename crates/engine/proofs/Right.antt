@@ -10,15 +10,12 @@ use borrow.Author.Tests.{eqb-true, eq-eqb}
 use Rattle.tables.specs.Lengths.{state_limit, move_limit}
 use Rattle.sheet.specs.declared.Layout.{Layout}
 use Rattle.sheet.specs.declared.Fault.{Fault}
-use Rattle.sheet.specs.declared.Answer.{Answer as Reading}
-use Rattle.sheet.specs.declared.Answer.TheVariants as reading
 use Rattle.sheet.specs.Data.{Sheet}
-use Rattle.sheet.specs.Reading.{read_sheet, sheet_in}
+use Rattle.sheet.specs.Reading.{Answer as Reading, refused as unread, read_sheet, sheet_in}
 use Rattle.sheet.proofs.Refusal.{refusal_exact}
 use Rattle.sheet.proofs.Exact.{exact}
 use Rattle.sheet.proofs.Encoded.{encoded}
-use Rattle.views.specs.declared.Strata.{Strata as Studied}
-use Rattle.views.specs.declared.Strata.TheVariants as strata
+use Rattle.views.specs.Sheet.{Studied, refused_by}
 use Rattle.views.specs.Sheet as views
 use Rattle.views.proofs.Says.{accepted_is, place_is}
 use Rattle.meaning.specs.Rules.{Rules}
@@ -81,17 +78,17 @@ module _ (s : List ℕ) (t : Tables) (right : RightLengths t) where
 
   studied_meets : (r : Reads s) (a : Studied) → views.answer r.sheet.rules ≡ a → MeetsAs s t (studied t r.sheet a)
   unfolding played
-  studied_meets r strata.Stratified e =
+  studied_meets r (Ok _) e =
       let d = r.sheet in
       let ok = (accepted_is d.rules (sheet_fits d r.fits)).0 e in
       told_meets (record { read = r; stratified = ok; rules = rules_of d; game = rules_right d r.fits ok }) (result (rules_of d) (nodes_of d) state_limit move_limit)
       (result_right (rules_of d) (nodes_of d) state_limit move_limit (omega arith) (nodes_in_order d r.fits)
       (subst (λ (n : ℕ). 0 < n) (sym (nodes_long d.nodes 0)) (omega (arith, r.fits.some_node))) (omega arith))
-  studied_meets r (strata.NotStratified v) e = (right, (r, (place_is r.sheet.rules (sheet_fits r.sheet r.fits) v).0 e), refl)
+  studied_meets r (Err x) e = (right, (r, (place_is r.sheet.rules (sheet_fits r.sheet r.fits) x.view).0 e), refl)
 
   read_meets : (a : Reading) → read_sheet s ≡ a → MeetsAs s t (read t s a)
-  read_meets (reading.Refused f k) e = (right, (refusal_exact s f k).0 e, refl)
-  read_meets (reading.Accepted y) e =
+  read_meets (Err x) e = (right, (refusal_exact s x.fault x.place).0 e, refl)
+  read_meets (Ok y) e =
       let x = exact s y e in
       studied_meets (record { sheet = sheet_in s y; bytes = x.bytes; fits = x.fits }) (views.answer (sheet_in s y).rules) refl
 
@@ -107,7 +104,7 @@ solved_meets s t = go (lengths_right t) refl
 module _ (s : List ℕ) (t u : Tables) where
   -- a sheet that keeps to every range is read as itself
   module _ (r : Reads s) where
-    reads_as : (y : Layout) × (read_sheet s ≡ reading.Accepted y) × (sheet_in s y ≡ r.sheet)
+    reads_as : (y : Layout) × (read_sheet s ≡ Ok y) × (sheet_in s y ≡ r.sheet)
     reads_as =
         let e = encoded r.sheet r.fits in
         (e.0, ap read_sheet r.bytes ∙ e.1, ap (λ (b : List ℕ). sheet_in b e.0) r.bytes ∙ e.2)
@@ -167,18 +164,18 @@ module _ (s : List ℕ) (t : Tables) (h : lengths_right t ≡ true) where
       subst (λ (o : Outcome). Meets s t o.tables o.answer)
       (ap (λ (b : Bool). cond b (read t s (read_sheet s)) (outcome (Err Table) t)) h ∙ sym e) (solved_meets s t)
 
-  pub solves_unread : (f : Fault) (k : ℕ) → read_sheet s ≡ reading.Refused f k → Meets s t t (Err (BadSheet f k))
+  pub solves_unread : (f : Fault) (k : ℕ) → read_sheet s ≡ Err (unread f k) → Meets s t t (Err (BadSheet f k))
   solves_unread f k e = solves_read t (Err (BadSheet f k)) (ap (read t s) (sym e))
 
-  module _ (y : Layout) (e : read_sheet s ≡ reading.Accepted y) where
+  module _ (y : Layout) (e : read_sheet s ≡ Ok y) where
     solves_studied : (u : Tables) (r : Answer) (a : Studied) → views.answer (sheet_in s y).rules ≡ a → outcome r u ≡ studied t (sheet_in s y) a → Meets s t u r
     solves_studied u r a f g = solves_read u r (g ∙ ap (studied t (sheet_in s y)) (sym f) ∙ ap (read t s) (sym e))
 
-    pub solves_unstratified : (v : ℕ) → views.answer (sheet_in s y).rules ≡ strata.NotStratified v → Meets s t t (Err (Strata v))
-    solves_unstratified v f = solves_studied t (Err (Strata v)) (strata.NotStratified v) f refl
+    pub solves_unstratified : (v : ℕ) → views.answer (sheet_in s y).rules ≡ refused_by v → Meets s t t (Err (Strata v))
+    solves_unstratified v f = solves_studied t (Err (Strata v)) (refused_by v) f refl
 
-    pub solves_played : (u : Tables) (r : Answer) → views.answer (sheet_in s y).rules ≡ strata.Stratified → outcome r u ≡ played (sheet_in s y) → Meets s t u r
-    solves_played u r f g = solves_studied u r strata.Stratified f g
+    pub solves_played : (u : Tables) (r : Answer) → views.answer (sheet_in s y).rules ≡ Ok tt → outcome r u ≡ played (sheet_in s y) → Meets s t u r
+    solves_played u r f g = solves_studied u r (Ok tt) f g
 
 -- Two answers that both meet the promise for one input are equal, and so are the tables that they leave.
 pub answer_unique : (s : List ℕ) (t u v : Tables) (r q : Answer) → Meets s t u r → Meets s t v q → (r ≡ q) × (u ≡ v)

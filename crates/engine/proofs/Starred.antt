@@ -30,7 +30,6 @@ use Rattle.meaning.specs.Rules.{Rules}
 use Rattle.rules.specs.declared.Look.{Look}
 use Rattle.sheet.specs.Fields.{Fits}
 use Rattle.sheet.proofs.Exact.{exact}
-use Rattle.views.specs.declared.Strata.TheVariants as strata
 use Rattle.views.proofs.Says.{views_same}
 use Rattle.views.proofs.Fits.{sheet_fits}
 use Rattle.meaning.specs.Reference.{result}
@@ -38,7 +37,7 @@ use Rattle.tables.specs.Lengths.{state_limit, move_limit}
 use Rattle.position.specs.Meaning.{asked_by, nodes_of}
 use Rattle.position.specs.Position.{still, says}
 use Rattle.engine.specs.declared.Refusal.TheVariants.{Table}
-use Rattle.std.specs.Prelude.{Err}
+use Rattle.std.specs.Prelude.{Ok, Err}
 use Rattle.engine.specs.Promise.{accepts}
 use Rattle.engine.specs.Cases.{Case, starred, sheet, lamp_rules, ◌from◌, node, two_states}
 use Rattle.engine.proofs.Right.{solved_meets, solved_right}
@@ -82,7 +81,7 @@ viewed_fits : Fits viewed
 unfolding played count.ones sheet_fields.sizes_fit sheet_fields.within sheet_fields.coalitions sheet_fields.head_limits sheet_fields.literal_limits sheet_fields.node_limits sheet_fields.head_fits sheet_fields.literal_fits sheet_fields.node_fits sheet_fields.rule_fits sheet_fields.form_fits sheet_question.question_of sheet_reading.first_node sheet_reading.record_step sheet_reading.step_at sheet_reading.run sheet_reading.read_sheet facts_bits.insert facts_pack.pack rules_meaning.doing rules_meaning.holds rules_rules.fires rules_rules.added rules_rules.gathered rules_rules.does_of rules_rules.does_set rules_rules.legal_set rules_rules.legals_set rules_rules.legals_of rules_rules.is_terminal rules_rules.is_goal rules_rules.next_facts rules_rules.init_facts views_reference.settle views_reference.layer views_reference.layered views_reference.put views_reference.name_of views_reference.row_of views_reference.row views_reference.rows views_reference.join views_reference.close views_reference.reach views_reference.back_to views_reference.on_chain views_reference.closed views_reference.lowest views_reference.refused views_sheet.mask_at views_sheet.views_at views_sheet.answer choices_moves.members_from choices_moves.members position_choices.choices position_meaning.node_of meaning_marks.mark_time meaning_marks.mark meaning_model.found meaning_reference.rounds_for meaning_reference.choices_for meaning_reference.why meaning_reference.solve meaning_rules.joints meaning_rules.options meaning_rules.moves meaning_rules.after atl_marking.recount atl_marking.swept atl_marking.secures atl_marking.force atl_marking.next atl_marking.onward atl_marking.choice atl_marking.doomed
 viewed_fits = (exact (bytes_of viewed) (record { sizes = viewed.sizes; rules = 8; nodes = 1; top = 6; first = 72 }) refl).fits
 
-viewed_accepted : views_sheet.answer viewed.rules ≡ strata.Stratified
+viewed_accepted : views_sheet.answer viewed.rules ≡ Ok tt
 unfolding played count.ones sheet_fields.sizes_fit sheet_fields.within sheet_fields.coalitions sheet_fields.head_limits sheet_fields.literal_limits sheet_fields.node_limits sheet_fields.head_fits sheet_fields.literal_fits sheet_fields.node_fits sheet_fields.rule_fits sheet_fields.form_fits sheet_question.question_of sheet_reading.first_node sheet_reading.record_step sheet_reading.step_at sheet_reading.run sheet_reading.read_sheet facts_bits.insert facts_pack.pack rules_meaning.doing rules_meaning.holds rules_rules.fires rules_rules.added rules_rules.gathered rules_rules.does_of rules_rules.does_set rules_rules.legal_set rules_rules.legals_set rules_rules.legals_of rules_rules.is_terminal rules_rules.is_goal rules_rules.next_facts rules_rules.init_facts views_reference.settle views_reference.layer views_reference.layered views_reference.put views_reference.name_of views_reference.row_of views_reference.row views_reference.rows views_reference.join views_reference.close views_reference.reach views_reference.back_to views_reference.on_chain views_reference.closed views_reference.lowest views_reference.refused views_sheet.mask_at views_sheet.views_at views_sheet.answer choices_moves.members_from choices_moves.members position_choices.choices position_meaning.node_of meaning_marks.mark_time meaning_marks.mark meaning_model.found meaning_reference.rounds_for meaning_reference.choices_for meaning_reference.why meaning_reference.solve meaning_rules.joints meaning_rules.options meaning_rules.moves meaning_rules.after atl_marking.recount atl_marking.swept atl_marking.secures atl_marking.force atl_marking.next atl_marking.onward atl_marking.choice atl_marking.doomed
 viewed_accepted = refl
 

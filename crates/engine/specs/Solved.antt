@@ -1,12 +1,9 @@
 -- The reference: the engine's answer and tables, computed.
-use Rattle.std.specs.Prelude.{ℕ, Bool, cond, List, length, eqb, Err}
+use Rattle.std.specs.Prelude.{ℕ, Bool, cond, List, length, eqb, Ok, Err}
 use Rattle.tables.specs.Lengths.{state_limit, move_limit, right_lengths}
-use Rattle.sheet.specs.declared.Answer.{Answer as Reading}
-use Rattle.sheet.specs.declared.Answer.TheVariants as reading
 use Rattle.sheet.specs.Data.{Sheet}
-use Rattle.sheet.specs.Reading.{read_sheet, sheet_in}
-use Rattle.views.specs.declared.Strata.{Strata as Studied}
-use Rattle.views.specs.declared.Strata.TheVariants as strata
+use Rattle.sheet.specs.Reading.{Answer as Reading, read_sheet, sheet_in}
+use Rattle.views.specs.Sheet.{Studied}
 use Rattle.views.specs.Sheet as views
 use Rattle.meaning.specs.Promise.{Result, refused, accepted}
 use Rattle.meaning.specs.Reference.{result}
@@ -44,13 +41,13 @@ played d = told (result (rules_of d) (nodes_of d) state_limit move_limit)
 
 -- of a sheet that reads well
 abbrev pub studied : Tables → Sheet → Studied → Outcome
-studied t d strata.Stratified = played d
-studied t d (strata.NotStratified v) = outcome (Err (Strata v)) t
+studied t d (Ok _) = played d
+studied t d (Err x) = outcome (Err (Strata x.view)) t
 
 -- of a sheet
 abbrev pub read : Tables → List ℕ → Reading → Outcome
-read t s (reading.Refused f k) = outcome (Err (BadSheet f k)) t
-read t s (reading.Accepted y) = studied t (sheet_in s y) (views.answer (sheet_in s y).rules)
+read t s (Err x) = outcome (Err (BadSheet x.fault x.place)) t
+read t s (Ok y) = studied t (sheet_in s y) (views.answer (sheet_in s y).rules)
 
 unfoldable pub solved : List ℕ → Tables → Outcome
 solved s t = cond (lengths_right t) (read t s (read_sheet s)) (outcome (Err Table) t)

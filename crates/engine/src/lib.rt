@@ -2,17 +2,14 @@
 #![tactic(auto)]
 
 ghost use Rattle.std.specs.Prelude.{◌≡◌};
-ghost use Rattle.sheet.specs.declared.Answer.TheVariants.{Accepted as Read};
-ghost use Rattle.sheet.specs.Reading.{read_sheet, sheet_in};
-ghost use Rattle.views.specs.declared.Strata.TheVariants.{Stratified};
-ghost use Rattle.views.specs.Sheet.{answer as Studied, masks_of};
 ghost use Rattle.model.specs.Answers.{number_of as stopNumber, place_of as stopPlace};
+ghost use Rattle.engine.specs.declared.Refusal.TheVariants.{Sheet as BadSheet, Strata};
 ghost use Rattle.engine.specs.Promise.{number_of, place_of, tables, Meets};
-ghost use Rattle.engine.specs.Solved.{outcome, stop, played, studied, read};
+ghost use Rattle.engine.specs.Solved.{stop};
 
 use sheet::Fault;
+use sheet::record::Rules;
 use tables::{STATE_LIMIT, right_lengths};
-use views::Strata;
 
 // Why a sheet is refused. Document 01's number and place of each: `number`, `place`.
 #[derive(Clone, Copy)]
@@ -46,7 +43,7 @@ impl Refusal {
     {
         match self {
             Refusal::Table => 9,
-            Refusal::Sheet(fault, _) => sheet::number(fault),
+            Refusal::Sheet(fault, _) => u8::from(fault),
             Refusal::Strata(_) => 5,
             Refusal::NoChoice(_) => 8,
             Refusal::ManyMoves(_) => 7,
@@ -66,6 +63,22 @@ impl Refusal {
             | Refusal::ManyMoves(place)
             | Refusal::ManyStates(place) => place,
         }
+    }
+}
+
+impl From<sheet::Refused> for Refusal {
+    ghost from_gives = { λ x r. r ≡ BadSheet x.fault x.place };
+
+    fn from(refused: sheet::Refused) -> Refusal {
+        Refusal::Sheet(refused.fault, refused.place)
+    }
+}
+
+impl From<views::Unstratified> for Refusal {
+    ghost from_gives = { λ x r. r ≡ Strata x.view };
+
+    fn from(unstratified: views::Unstratified) -> Refusal {
+        Refusal::Strata(unstratified.view)
     }
 }
 
@@ -105,25 +118,15 @@ pub fn solve(
     ) {
         return Err(Refusal::Table);
     }
-    let layout = match sheet::read(s) {
-        sheet::Answer::Accepted(layout) => layout,
-        sheet::Answer::Refused(fault, place) => return Err(Refusal::Sheet(fault, place)),
-    };
+    let layout = sheet::read(s)?;
+    let rules = Rules::of(s, layout.top, layout.rules);
     let mut rows = [0; 64];
     let mut masks = [0; 64];
-    if let Strata::NotStratified(view) = views::study(
-        s,
-        layout.top,
-        layout.rules,
-        &mut rows,
-        &mut masks,
-    ) {
-        return Err(Refusal::Strata(view));
-    }
+    views::study(rules, &mut rows, &mut masks)?;
     rounds.fill(0);
     choices.fill(0);
     marks.fill(0);
-    let moves = position::moves_of(s, layout.top, layout.rules);
+    let moves = position::moves_of(rules);
     let mut counts = [0; 4096];
     let mut seen = [0; STATE_LIMIT];
     let built = model::build(
