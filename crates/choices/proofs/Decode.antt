@@ -1,7 +1,7 @@
 -- A turn of taking a joint move apart: the next role's move stands in the result, and the rest of the number is the rest of the joint move.
 use Rattle.std.specs.Prelude.{◌≡◌, ℕ, suc, ◌+◌, ◌-◌, ◌*◌, ◌/◌, ◌%◌, ◌≤◌, ◌<◌, length, get_or, drop, set, replicate}
 use Rattle.std.proofs.Math.Path.{sym, ap}
-use Rattle.std.proofs.Common.{ap₂, ◌∙◌, mod-lt, add-one, arith, length-set, drop-cons, drop-set-lt, drop-drop}
+use Rattle.std.proofs.Common.{ap₂, ◌∙◌, mod-lt, add-one, arith, length-set, length-take-le, get_or-take, drop-cons, drop-set-lt, drop-drop}
 use mathlib.Core.List.{List, [], ◌∷◌, ◌++◌, append_assoc}
 use Rattle.std.proofs.Math.Nat.{mul-div_cancel_left}
 use Rattle.std.proofs.Math.ListN.{take}
@@ -60,3 +60,29 @@ module _ (ss : List ℕ) (j p w rest : ℕ) (out : List ℕ) (h : p < length ss)
         parts = parts' ∙ ap₂ (λ (y k : ℕ). take (p + 1) (set out p y) ++ decode (drop (p + 1) ss) (rest % k)) (sym f) (sym weight_is);
         tail = ap (λ (y : ℕ). drop (p + 1) (set out p y)) f ∙ tail';
       }
+
+-- the same in the code's terms: the sets are the first `roles` of four, and n is what the count of ones gave
+module _ (sets : List ℕ) (roles j p w rest n : ℕ) (out : List ℕ) (long : length sets ≡ 4) (few : roles ≤ 4) (h : p < roles)
+    (m : Mid (take roles sets) j p w rest out) (counted : n ≡ length (members (get_or sets p 0))) where
+  roles_is : length (take roles sets) ≡ roles
+  roles_is = length-take-le roles sets (omega arith)
+
+  in_range : p < length (take roles sets)
+  in_range = omega (arith, roles_is)
+
+  few_of : length (take roles sets) ≤ 4
+  few_of = omega (arith, roles_is)
+
+  n_is : length (members (get_or (take roles sets) p 0)) ≡ n
+  n_is = ap (λ (x : ℕ). length (members x)) (get_or-take roles sets p 0 h) ∙ sym counted
+
+  pub turn_of : (x : ℕ) → x ≡ get_or (members (get_or sets p 0)) (rest / (w / n)) 16 → Mid (take roles sets) j (p + 1) (w / n) (rest % (w / n)) (set out p x)
+  turn_of x e =
+      rw n_is at (turn (take roles sets) j p w rest out in_range few_of m x
+      (e ∙ ap₂ (λ (y k : ℕ). get_or (members y) (rest / (w / k)) 16) (sym (get_or-take roles sets p 0 h)) (sym n_is)))
+
+  pub some_of : 0 < n
+  some_of = rw n_is at (some (take roles sets) j p w rest out in_range few_of m)
+
+  pub pos_of : 0 < w / n
+  pos_of = rw n_is at (weight_pos (take roles sets) j p w rest out in_range few_of m)

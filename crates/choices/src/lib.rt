@@ -5,6 +5,7 @@ ghost use Rattle.std.specs.Prelude.{◌≡◌, ◌≤◌, ◌<◌, length, take,
 ghost use Rattle.choices.specs.Moves.{members, full, total, decode, rank, encode, four};
 
 // Each role's choices as a set of sixteen bits. In a terminal state each role has one, number 0, and the game stays.
+// The flag stands beside the sets: document 01 names this form (docs/DECISIONS.md, "Named forms").
 #[derive(Clone, Copy)]
 pub struct Choices {
     pub sets: [u16; 4],

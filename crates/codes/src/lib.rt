@@ -98,7 +98,7 @@ pub fn encode_rule(rule: Rule, q: Ask, code: &mut [u64], c: usize) -> usize
 }
 
 // ---- one question
-// Soundness and room stay clauses: a type around rules, table and slot would be no plainer.
+// Soundness and room stay clauses: the first `for` would take the rules out of such a type, and each rule's soundness would be proved there as now.
 
 // The codes of the rules that add to the set that is asked for, from slot `from` on. The next free slot.
 pub fn encode(rules: Rules, q: Ask, code: &mut [u64], from: usize) -> usize

@@ -23,11 +23,18 @@ impl From<FactSet> for u64 {
     ghost from_gives = { λ set bits. bits ≡ set.bits };
 
     fn from(set: FactSet) -> u64 {
-        set.bits
+        set.number()
     }
 }
 
 impl FactSet {
+    // The number that stands for the set: document 01 names a method for it (docs/DECISIONS.md, "Named forms").
+    pub fn number(self) -> u64
+        ensures { result ≡ self.bits }
+    {
+        self.bits
+    }
+
     // Does fact i hold? No fact from 64 on does.
     pub fn has(self, i: u8) -> bool
         ensures { result ≡ has self.bits i }

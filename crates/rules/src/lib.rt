@@ -74,7 +74,7 @@ pub fn body_holds(body: Body, k: Look) -> bool
 
 // ---- one rule
 
-// The place of a role's move among those of all roles, where the head is LEGAL of a role and a move.
+// The place of a role's move among those of all roles, where the head is LEGAL of a role and a move. 64 stands for none in `member_of`, a definition, which keeps its meaning.
 pub fn place(head: Part) -> Option<u8>
     ensures { unwrap_or result 64 ≡ member_of Legals head }
 {

@@ -3,7 +3,7 @@ ghost use Rattle.std.specs.Prelude.{◌≡◌, ◌≤◌, length};
 ghost use Rattle.sheet.specs.Data.{rules_end, rules_from};
 ghost use Rattle.sheet.specs.Records.{rules_of};
 
-// A kind with its fields a and b: a rule's head, or a literal.
+// A kind with its fields a and b: a rule's head, or a literal. The kind is the sheet's byte, known or not: `literal_fits`, `head_fits` and `rules::literal_holds` speak of all bytes.
 #[derive(Clone, Copy, Debug, PartialEq, Eq)]
 pub struct Part {
     pub kind: u8,
@@ -11,7 +11,7 @@ pub struct Part {
     pub b: u8,
 }
 
-// A node of the question: a kind with its fields a and b, and a coalition.
+// A node of the question: a kind with its fields a and b, and a coalition. The kind is the sheet's byte, known or not: `node_fits` speaks of all bytes.
 #[derive(Clone, Copy, Debug, PartialEq, Eq)]
 pub struct Node {
     pub kind: u8,
@@ -23,7 +23,7 @@ pub struct Node {
 // The literals of a body that are left, three bytes each.
 #[derive(Clone, Copy)]
 pub struct Body<'a> {
-    pub(crate) bytes: &'a [u8],
+    pub bytes: &'a [u8],
 }
 
 // A rule: its head holds where all literals of its body do.

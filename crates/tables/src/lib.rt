@@ -9,7 +9,7 @@ pub const STATE_LIMIT: usize = 1024;
 
 pub const MOVE_LIMIT: usize = 8192;
 
-// Have the six tables exactly their lengths?
+// Have the six tables exactly their lengths? Six numbers, as `engine::solve` has six lent slices and is the only caller: a struct for that call would be no plainer.
 pub fn right_lengths(
     states: usize,
     starts: usize,
