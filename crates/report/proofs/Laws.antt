@@ -5,7 +5,6 @@ use mathlib.Core.Bool.{Bool}
 use mathlib.Core.List.{List}
 use lib.ListN.{length}
 use Rattle.sheet.specs.declared.Layout.{Layout}
-use Rattle.sheet.specs.declared.Answer.TheVariants.{Accepted as Read}
 use Rattle.sheet.specs.declared.question.Question.{Question}
 use Rattle.sheet.specs.Data.{node_at}
 use Rattle.sheet.specs.Question.{question_of}
@@ -19,7 +18,7 @@ use Rattle.engine.specs.Promise.{Answer, Tables, Meets}
 use Rattle.report.specs.declared.Last.{Last}
 use Rattle.report.specs.Report.{is_eventually, last_at, last_in, listing_of, Reports}
 
-module _ (s : List ℕ) (y : Layout) (read : read_sheet s ≡ Read y) where
+module _ (s : List ℕ) (y : Layout) (read : read_sheet s ≡ Ok y) where
   pub some_node : 1 ≤ y.nodes
   some_node = subst (λ (n : ℕ). 1 ≤ n) (nodes_length s y.nodes y.first) (exact s y read).fits.some_node
 

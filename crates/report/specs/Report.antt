@@ -1,15 +1,13 @@
 -- What is printed of a sheet, and what a report is: an answer that meets the engine's promise, and its text.
 use Rattle.std.specs.Prelude.{ℕ, ◌+◌, ◌-◌, ◌*◌, Bool, true, false, List, Ok, Err}
 use Rattle.sheet.specs.declared.Layout.{Layout}
-use Rattle.sheet.specs.declared.Answer.{Answer as Reading}
-use Rattle.sheet.specs.declared.Answer.TheVariants as reading
 use Rattle.sheet.specs.declared.question.Future.{Future}
 use Rattle.sheet.specs.declared.question.Future.TheVariants as future
 use Rattle.sheet.specs.declared.question.Question.{Question}
 use Rattle.sheet.specs.declared.question.Question.TheVariants as question
 use Rattle.sheet.specs.Data.{node_at}
 use Rattle.sheet.specs.Question.{question_of}
-use Rattle.sheet.specs.Reading.{read_sheet}
+use Rattle.sheet.specs.Reading.{Answer as Reading, read_sheet}
 use Rattle.listing.specs.Listing.{listing, refusal, tables_of}
 use Rattle.listing.specs.Buffer.{Prints}
 use Rattle.engine.specs.Promise.{Answer, number_of, place_of, Tables, Meets}
@@ -42,8 +40,8 @@ last_at s y = record { number = y.nodes - 1; eventually = is_eventually (questio
 
 -- The last node of a sheet; one that does not read has none.
 abbrev pub last_in : List ℕ → Reading → Last
-last_in s (reading.Accepted y) = last_at s y
-last_in s (reading.Refused f k) = record { number = 0; eventually = false }
+last_in s (Ok y) = last_at s y
+last_in s (Err _) = record { number = 0; eventually = false }
 
 -- The listing of an accepted sheet.
 unfoldable pub listing_of : List ℕ → Tables → ℕ → Bool → List ℕ

@@ -2,7 +2,6 @@
 #![tactic(auto)]
 
 ghost use Rattle.std.specs.Prelude.{◌≡◌};
-ghost use Rattle.sheet.specs.declared.Answer.TheVariants.{Accepted as Read};
 ghost use Rattle.sheet.specs.Reading.{read_sheet};
 ghost use Rattle.io.specs.Counts.{IsPrefixLen};
 ghost use Rattle.engine.specs.Promise.{tables};
@@ -28,7 +27,7 @@ fn asks_eventually(q: Question) -> bool
 
 // The last node of a sheet that reads well.
 fn last_at(s: &[u8], y: Layout) -> Last
-    requires { read_sheet s.now ≡ Read y }
+    requires { read_sheet s.now ≡ Ok y }
     ensures { result ≡ last_at s.now y }
 {
     let number = usize::from(y.nodes) - 1;
@@ -44,8 +43,8 @@ fn last_in(s: &[u8]) -> Last
     ensures { result ≡ last_in s.now (read_sheet s.now) }
 {
     match sheet::read(s) {
-        sheet::Answer::Accepted(y) => last_at(s, y),
-        sheet::Answer::Refused(_, _) => Last {
+        Ok(y) => last_at(s, y),
+        Err(_) => Last {
             number: 0,
             eventually: false,
         },

@@ -1,5 +1,5 @@
 -- `engine::solve` meets its contract: where it stops, its answer is the reference's, and so meets the promise.
-use Rattle.std.proofs.Common.{◌≡◌, sym, ◌∙◌, ap, refl, rules}
+use Rattle.std.proofs.Common.{sym, ◌∙◌, ap, refl, rules}
 use Rattle.std.proofs.lemmas.Result.{err_from_is_err_and}
 use Rattle.engine.specs.Solved.{lengths_right}
 use Rattle.engine.specs.Promise.{tables}
@@ -36,8 +36,7 @@ build-requires c =
     let a = c.args in
     let whole = accepted_whole a.s.now c.in_ok-layout.layout (sym c.read.ensures ∙ c.in_ok-layout.was) in
     let rules_are = c.of-rules.ensures whole.within in
-    let long = lengths_are (tables a.states.now a.starts.now a.successors.now a.rounds.now a.choices.now a.marks.now) (sym c.right_lengths.ensures ∙ c.if-not-right_lengths.false) in
-    (
+    let long = lengths_are (tables a.states.now a.starts.now a.successors.now a.rounds.now a.choices.now a.marks.now) (sym c.right_lengths.ensures ∙ c.if-not-right_lengths.false) in (
       whole,
       record { masks_are = c.study.ensures.levels ∙ ap masks_of rules_are; moves_are = c.moves_of-moves.ensures ∙ ap moves_of rules_are },
       sized _ _ _ _ _ _ _ _ long (search rules) (search rules),
@@ -69,8 +68,7 @@ answer-verdict-requires c =
     let y = c.in_ok-layout.layout in
     let reads = sym c.read.ensures ∙ c.in_ok-layout.was in
     let long = lengths_are (tables a.states.now a.starts.now a.successors.now a.rounds.now a.choices.now a.marks.now) (sym c.right_lengths.ensures ∙ c.if-not-right_lengths.false) in
-    let whole = accepted_whole a.s.now y reads in
-    (
+    let whole = accepted_whole a.s.now y reads in (
       asked (sheet_in a.s.now y) whole.fits _ _ reads refl _ _ _ _ _ _ _ c.in_ok-built.ensures,
       cleared state_limit a.marks.now _ (c.fill-3.ensures.after (λ y e. e)) long.marks,
       cleared state_limit a.rounds.now _ (c.fill.ensures.after (λ y e. e)) long.rounds,
