@@ -1,18 +1,21 @@
 // The engine: a sheet and six lent tables in, an answer out.
 #![tactic(auto)]
 
-ghost use Rattle.std.specs.Prelude.{◌≡◌};
+ghost use Rattle.std.specs.Prelude.{◌≡◌, true, Ok};
+ghost use Rattle.sheet.specs.Reading.{read_sheet, sheet_in};
+ghost use Rattle.views.specs.Sheet.{answer as studied, masks_of};
 ghost use Rattle.model.specs.Answers.{number_of as stopNumber, place_of as stopPlace};
 ghost use Rattle.engine.specs.declared.Refusal.TheVariants.{Sheet as BadSheet, Strata};
 ghost use Rattle.engine.specs.Promise.{number_of, place_of, tables, Meets};
-ghost use Rattle.engine.specs.Solved.{stop};
+ghost use Rattle.engine.specs.Solved.{lengths_right, outcome, played, stop};
 
-use sheet::Fault;
+use model::ROLE_LIMIT;
 use sheet::record::Rules;
+use sheet::{Fault, Layout};
 use tables::{STATE_LIMIT, right_lengths};
 
-// Why a sheet is refused. Document 01's number and place of each: `number`, `place`.
-#[derive(Clone, Copy)]
+// Why a sheet is refused. Document 01's number and place of each: `number`, `place`. The builder's three cases stand here once more, since the promise (`Meets`) speaks of each.
+#[derive(Clone, Copy, Debug, PartialEq, Eq)]
 pub enum Refusal {
     // a table of another length
     Table,
@@ -29,7 +32,7 @@ pub enum Refusal {
 }
 
 // Of an accepted sheet: how many states, how many joint moves, and the verdict.
-#[derive(Clone, Copy)]
+#[derive(Clone, Copy, Debug, PartialEq, Eq)]
 pub struct Solved {
     pub states: usize,
     pub moves: usize,
@@ -94,6 +97,52 @@ impl From<model::Refusal> for Refusal {
     }
 }
 
+// The game of a stratified sheet is built, and its question answered. The six tables come one by one, as document 01 has them.
+fn play(
+    s: &[u8],
+    layout: Layout,
+    masks: &[u64; 64],
+    states: &mut [u64],
+    starts: &mut [u16],
+    successors: &mut [u16],
+    rounds: &mut [u16],
+    choices: &mut [u16],
+    marks: &mut [u64],
+) -> Result<Solved, Refusal>
+    requires reads { read_sheet s.now ≡ Ok layout }
+    requires stratified { studied (sheet_in s.now layout).rules ≡ Ok tt }
+    requires levels { masks.now ≡ masks_of (sheet_in s.now layout).rules }
+    requires long { lengths_right (tables states.old starts.old successors.old rounds.old choices.old marks.old) ≡ true }
+    ensures { outcome result (tables states.new starts.new successors.new rounds.new choices.new marks.new) ≡ played (sheet_in s.now layout) }
+{
+    rounds.fill(0);
+    choices.fill(0);
+    marks.fill(0);
+    let moves = position::moves_of(Rules::of(s, layout.top, layout.rules));
+    let mut counts = [0; ROLE_LIMIT * STATE_LIMIT];
+    let mut seen = [0; STATE_LIMIT];
+    let built = model::build(
+        s,
+        layout,
+        masks,
+        moves,
+        states,
+        starts,
+        successors,
+        &mut counts,
+        &mut seen,
+    )?;
+    let n = built.states;
+    let verdict = nodes::answer(
+        s, layout, n, states, &seen, starts, successors, &counts, marks, rounds, choices,
+    );
+    Ok(Solved {
+        states: built.states,
+        moves: built.moves,
+        verdict,
+    })
+}
+
 // THE ENTRY POINT: any sheet, any tables.
 pub fn solve(
     s: &[u8],
@@ -123,39 +172,7 @@ pub fn solve(
     let mut rows = [0; 64];
     let mut masks = [0; 64];
     views::study(rules, &mut rows, &mut masks)?;
-    rounds.fill(0);
-    choices.fill(0);
-    marks.fill(0);
-    let moves = position::moves_of(rules);
-    let mut counts = [0; 4096];
-    let mut seen = [0; STATE_LIMIT];
-    let built = model::build(
-        s,
-        layout,
-        &masks,
-        moves,
-        states,
-        starts,
-        successors,
-        &mut counts,
-        &mut seen,
-    )?;
-    let verdict = nodes::answer(
-        s,
-        layout,
-        built.states,
-        states,
-        &seen,
-        starts,
-        successors,
-        &counts,
-        marks,
-        rounds,
-        choices,
-    );
-    Ok(Solved {
-        states: built.states,
-        moves: built.moves,
-        verdict,
-    })
+    play(
+        s, layout, &masks, states, starts, successors, rounds, choices, marks,
+    )
 }
