@@ -14,22 +14,10 @@ use Rattle.incoming.specs.Index.{at, bit}
 use Rattle.incoming.proofs.Counting.{many_le}
 use Rattle.backward.specs.Walk.{Lined}
 
-pub lined_none : (rounds queue : List ℕ) → Lined 0 0 rounds queue
-lined_none rounds queue = record {
-  few = refl;
-  listed = λ k h. absurd (not-suc-le-zero h);
-  zeros = λ k h. absurd (not-suc-le-zero h);
-  once = λ j k h g. absurd (not-suc-le-zero g);
-  found = λ j h e. absurd (not-suc-le-zero h);
-}
-
 module _ (rounds : List ℕ) {i more : ℕ} {queue : List ℕ} (x : Lined i more rounds queue) where
   -- no more positions stand in the queue than were looked at
   pub lined_le : more ≤ i
   lined_le = omega (arith, x.few, many_le i (λ j. eqb (at rounds j) 0))
-
-  pub lined_all : {n : ℕ} → i ≤ n → n ≤ i → Lined n more rounds queue
-  lined_all {n} h g = let z : i ≡ n = omega arith in rw z at x
 
   pub lined_skip : (get_or rounds i 0 ≡ 0 → ⊥) → Lined (i + 1) more rounds queue
   lined_skip o = rw add-one (record {

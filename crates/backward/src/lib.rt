@@ -13,7 +13,7 @@ pub mod ground;
 
 pub use ground::Ground;
 use incoming::bump;
-use marking::{Marked, begin, permitted};
+use marking::{Marked, UNSET, begin, permitted};
 
 impl Ground<'_> {
     // The place of the counter of the class of the joint move at place `p`.
@@ -68,7 +68,8 @@ fn count_some(counters: &[u16]) -> usize
     counters.iter().filter(|x| **x != 0).count()
 }
 
-// One more for a counter: one less is left, or nothing where one is enough; and whether that finishes it.
+// One more for a counter: one less is left, or nothing where one is enough; and whether that finishes it. `all` is the walk's question (`lowered`,
+// `finishes`) and no step to run.
 fn lower(all: bool, counter: &mut u16) -> bool
     ensures { (counter.new ≡ lowered all counter.old) × (result ≡ finishes all counter.old) }
 {
@@ -82,7 +83,7 @@ fn lower(all: bool, counter: &mut u16) -> bool
 }
 
 // What the walk has: of each class the joint moves that it waits for, of each position the classes that it waits for, the counts, and the positions
-// that have a count in the order in which they took it, `more` of them.
+// that have a count in the order in which they took it, `more` of them. `Roomy` stays a clause: it speaks of the ground too, which the walk only reads.
 #[derive(Drop)]
 struct Walk<'a> {
     left: &'a mut [u16],
@@ -109,7 +110,7 @@ impl Walk<'_> {
         ensures does { held self.new ≡ enterOf (may ground.now) r i (held self.old) }
         ensures same { Same self.old self.new }
     {
-        if self.rounds[i] == u16::MAX && permitted(ground.through, i) {
+        if self.rounds[i] == UNSET && permitted(ground.through, i) {
             self.rounds[i] = r + 1;
             self.push(i);
         }
@@ -170,7 +171,7 @@ impl Walk<'_> {
     }
 
     // Round after round, from the positions of count 0, which stand in the queue: those that took the count of a round are walked from in the next.
-    // The walk ends where no position took one.
+    // The walk ends where no position took one. No `for`: a round ends where the queue then ends, and rounds go on as long as it grows.
     fn walk_rounds(&mut self, ground: &Ground)
         requires { (joints ground.now ≤ length self.old.left.now) × (positions ground.now ≤ length self.old.need)
             × (positions ground.now ≤ length self.old.queue) × Open ground.now self.old

@@ -143,7 +143,7 @@ fn play(
     })
 }
 
-// THE ENTRY POINT: any sheet, any tables.
+// THE ENTRY POINT: any sheet, any tables. The six tables come one by one, as document 01 has them.
 pub fn solve(
     s: &[u8],
     states: &mut [u64],

@@ -47,11 +47,7 @@ pub refusal_is : (number place : ℕ)
 unfolding refusal
 refusal_is number place = simp append_assoc
 
--- the loop over the states: none, one more, all
-pub lines_none : (t : Tables) → [] ≡ state_lines t 0
-unfolding state_lines
-lines_none t = refl
-
+-- the loop over the states: one more, all
 pub lines_more : (t : Tables) (i : ℕ) → state_lines t i ++ state_line t i ≡ state_lines t (i + 1)
 unfolding state_lines
 lines_more t i = rw add-one

@@ -16,7 +16,8 @@ pub const LINK_LIMIT: usize = 2048;
 // How many facts can be tested.
 const FACT_LIMIT: u8 = 64;
 
-// A tree of tests: the fact that each node tests, and where each link leads.
+// A tree of tests: the fact that each node tests, and where each link leads. No ghost field says that it is a tree (`Forked`): its number of entries and their ways are data, and a
+// ghost field holds facts alone.
 #[derive(Drop)]
 pub struct Tree {
     pub tests: [u8; STATE_LIMIT],
@@ -51,7 +52,7 @@ impl Tree {
         }
     }
 
-    // The first link on the way of x that does not lead to a node with a test below d.
+    // The first link on the way of x that does not lead to a node with a test below d. No `for`: the way has no number of steps that is known before.
     fn spot(&self, x: u64, d: u8) -> usize
         requires { (n : ℕ) × Forked n self.now.tests self.now.forks }
         ensures spotted { Spotted self.now.tests self.now.forks x d result }

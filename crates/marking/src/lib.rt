@@ -16,10 +16,10 @@ use facts::FactSet;
 pub use game::Board;
 use std::ops::Range;
 
-// The count and the choice of a position that has none.
-const UNSET: u16 = u16::MAX;
+// The count and the choice of a position that has none: document 01 has 65,535 for it in the tables.
+pub const UNSET: u16 = u16::MAX;
 
-// The positions of count at most `r` in the table; or, where `want` is false, the others.
+// The positions of count at most `r` in the table; or, where `want` is false, the others. `want` is a side of the game (`side`), which contracts name, and no step to run.
 #[derive(Clone, Copy)]
 pub struct Aim<'a> {
     pub table: &'a [u16],
@@ -65,6 +65,7 @@ pub fn permitted(through: Option<Marked>, i: usize) -> bool
     }
 }
 
+// The flags are written and the rest is only read: a struct of both would be taken apart again by each function, so `Tried` names what they ask.
 // A flag for each class of position `i`: 1 where some joint move of the class leads to no position of `aim`.
 fn strike(board: Board, aim: Aim, i: usize, flags: &mut [u16])
     requires { Tried board aim.table.now i flags.old }

@@ -51,9 +51,6 @@ length_swept n p b (suc r) = length_tabulate n _
 pub back : (n : ℕ) (p : States → States) (b : States) (r : ℕ) (l rs : List ℕ) → rs ≡ swept n p b r → take n (rs ++ drop n l) ≡ rs
 back n p b r l rs e = take_at rs (drop n l) n (ap length e ∙ length_swept n p b r)
 
-pub back_length : (n : ℕ) (p : States → States) (b : States) (r : ℕ) (l rs : List ℕ) → rs ≡ swept n p b r → length (take n (rs ++ drop n l)) ≡ n
-back_length n p b r l rs e = ap length (back n p b r l rs e) ∙ ap length e ∙ length_swept n p b r
-
 module _ {states joints n : ℕ} {starts successors counts : List ℕ} (m : Model states joints n starts successors counts) (mask : ℕ) (l : List ℕ) (room : joints ≤ length l) where
   -- what is asked for the classes
   pub classes_asks : Starts n starts (length l) × Counted n starts counts

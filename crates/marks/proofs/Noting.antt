@@ -14,13 +14,6 @@ use Rattle.radix.specs.Classes.{filled}
 use Rattle.radix.proofs.Filling.{filled_more, filled_left, ranged_cong}
 use Rattle.marks.specs.Noted.{entry, noted}
 
--- one entry
-pub mark_on : (k : ℕ) (l : List ℕ) (i : ℕ) (on : Bool) (s : ℕ) → on ≡ true → s ≡ insert (get_or l i 0) k → set l i s ≡ set l i (add_if on (get_or l i 0) k)
-mark_on k l i on s e d = rw e (ap (set l i) d)
-
-pub mark_off : (k : ℕ) (l : List ℕ) (i : ℕ) (on : Bool) → on ≡ false → l ≡ set l i (add_if on (get_or l i 0) k)
-mark_off k l i on e = rw e (sym (set-get_or l i 0))
-
 -- sets that agree below n write the same bits
 pub noted_cong : (n k : ℕ) (v w : States) (l : List ℕ) → ((i : ℕ) → i < n → v i ≡ w i) → noted n k v l ≡ noted n k w l
 noted_cong n k v w l e = ranged_cong (entry k v l) (entry k w l) 0 l n (λ i h. ap (λ (x : Bool). add_if x (get_or l i 0) k) (e i h))

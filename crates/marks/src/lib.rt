@@ -29,7 +29,7 @@ pub use room::Room;
 use sheet::question::Future;
 
 // The entry of position `i` with bit `k`, where `on`.
-fn mark(marks: &mut [u64], k: u8, i: usize, on: bool)
+pub fn mark(marks: &mut [u64], k: u8, i: usize, on: bool)
     requires { (i < length marks.old) × (k < 64) }
     ensures { marks.new ≡ set marks.old i (add_if on (get_or marks.old i 0) k) }
 {
@@ -39,6 +39,7 @@ fn mark(marks: &mut [u64], k: u8, i: usize, on: bool)
 }
 
 // Bit `k` at those of the first `n` positions where the test passes, which is given the position and its marks so far.
+// n, k and the table stay three parameters: each caller has them apart, and reads other bits of the same table.
 pub fn note<F: Fn(usize, FactSet) -> bool>(n: usize, k: u8, marks: &mut [u64], test: F)
     requires { (n ≤ length marks.old) × (k < 64) × ((i : ℕ) (set : _) → i < n → F.pre test i set) }
     ensures { (w : States) → ((i : ℕ) (on : Bool) → i < n → F.post test i (record { bits = get_or marks.old i 0 }) on → on ≡ w i) → marks.new ≡ noted n k w marks.old }
@@ -126,7 +127,7 @@ fn classify(coalition: Coalition, classes: &mut [u16])
     fill_classes(joints.n, joints.starts, counts, coalition.mask, classes);
 }
 
-// NEXT of node `a`: bit `k`. The table of counts is lent, so that it stands once.
+// NEXT of node `a`: bit `k`. The table of counts is lent, so that it stands once; it, the marks and the room have nothing in common but this call.
 fn mark_next(
     coalition: Coalition,
     a: u8,
@@ -154,7 +155,7 @@ fn mark_next(
     mark_forced(board, aim, k, room.flags, marks);
 }
 
-// The counts of UNTIL, EVENTUALLY and ALWAYS. All that the walk reads is lent for one time, since it stands in one value.
+// The counts of UNTIL, EVENTUALLY and ALWAYS. All that the walk reads is lent for one time ('a), since it stands in one value, so it cannot come inside a `Coalition`.
 fn count_spread<'a>(
     board: Board<'a>,
     incoming: Incoming<'a>,

@@ -36,7 +36,7 @@ pub struct Reach {
     pub goal: u8,
 }
 
-// A sheet as it was read, and the facts and the views of each position of its model.
+// A sheet as it was read, and the facts and the views of each position of its model. `ReadyFor` is no ghost field: it speaks of the arena too, and the model in it is data.
 #[derive(Clone, Copy)]
 struct Held<'a> {
     bytes: &'a [u8],
@@ -134,13 +134,11 @@ fn mark_end(held: Held, arena: Arena, tables: &mut Answer, room: &mut Room)
 {
     let k = held.layout.nodes - 1;
     match goal_of(held.asked_at(k)) {
-        Some(
-            Reach {
-                coalition: mask,
-                goal,
-            },
-        ) => {
-            let coalition = Coalition { arena, mask };
+        Some(Reach { coalition, goal }) => {
+            let coalition = Coalition {
+                arena,
+                mask: coalition,
+            };
             mark_last(coalition, goal, k, tables, room);
         }
         None => mark_node(held, arena, k, tables.marks, room),

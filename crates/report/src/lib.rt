@@ -51,7 +51,7 @@ fn last_in(s: &[u8]) -> Last
     }
 }
 
-// Solves a sheet and writes what is printed of it at the buffer's start; answers how many bytes that is.
+// Solves a sheet and writes what is printed of it at the buffer's start; answers how many bytes that is. The tables come one by one, as `engine::solve` takes them.
 pub fn report(
     s: &[u8],
     states: &mut [u64],
