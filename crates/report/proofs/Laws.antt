@@ -10,7 +10,7 @@ use Rattle.sheet.specs.Data.{node_at}
 use Rattle.sheet.specs.Question.{question_of}
 use Rattle.sheet.specs.Reading.{read_sheet}
 use Rattle.sheet.proofs.Exact.{exact, nodes_length}
-use Rattle.listing.specs.Listing.{listing, tables_of}
+use Rattle.listing.specs.Listing.{listing, refusal, tables_of}
 use Rattle.listing.specs.Buffer.{Prints}
 use Rattle.std.specs.Prelude.{Ok}
 use Rattle.engine.specs.declared.Solved.{Solved}
@@ -47,3 +47,8 @@ reports_listing {s} {t} {u} {before} {after} {r} {solved} {answer} e is meets pr
       let P : Last → Type 0 = λ x. Prints (listing (tables_of u.states u.starts u.marks u.rounds u.choices x.number x.eventually) solved.states solved.verdict) before after r in
       rw is (subst P e prints);
 }
+
+-- the line of a refusal, by equal numbers
+pub refusal_is : {n m k j r : ℕ} {before after : List ℕ} → Prints (refusal n k) before after r → n ≡ m → k ≡ j → Prints (refusal m j) before after r
+refusal_is {n} {m} {k} {j} {r} {before} {after} p e f =
+    subst (λ (x : ℕ). Prints (refusal m x) before after r) f (subst (λ (x : ℕ). Prints (refusal x k) before after r) e p)
