@@ -89,13 +89,13 @@ module _ (homes : List ℕ) (at : ℕ → ℕ) where
 
 -- What the gifts have is what the slots give that are hit.
 given_hit : {code : List ℕ} {filed : Keys} {l gifts : List ℕ} (keys masks : List ℕ) → Gathered code filed l gifts → length keys ≤ filed.count
-    → (joint k : ℕ) → given keys masks gifts joint k ≡ picked_by (hit filed.homes (place_at keys masks joint) k) code l
+    → (joint k : ℕ) → given keys masks gifts joint k ≡ picked_by (hit filed.homes.now (place_at keys masks joint) k) code l
 unfolding given
 given_hit {code} {filed} {l} {gifts} keys masks g h joint zero = sym (picked_none code l)
 given_hit {code} {filed} {l} {gifts} keys masks g h joint (suc k) =
     let x = key_of (bit_and (get_or masks k 0) joint) in
     ap₂ bit_or (given_hit keys masks g h joint k) (g.gifts_are (place_at keys masks joint k) (omega (arith, h, place_le x keys)))
-    ∙ picked_either code (hit filed.homes (place_at keys masks joint) k) (λ c. eqb (get_or filed.homes c 0) (place_at keys masks joint k)) l
+    ∙ picked_either code (hit filed.homes.now (place_at keys masks joint) k) (λ c. eqb (get_or filed.homes.now c 0) (place_at keys masks joint k)) l
 
 -- ---- the joint move has the moves of a slot
 -- What two sets have is a part of the second.
@@ -116,21 +116,21 @@ module _ {code : List ℕ} {to : ℕ} {filed : Keys} (f : Filing code to filed) 
   found_is x k e = ap₂ (λ (y : ℕ) (l : List ℕ). place (key_of y) l) e f.keys_are
 
   -- A slot whose moves are made is hit.
-  made_hit : (c : ℕ) → c < to → stirs (sets_in code c) (joint_of m) ≡ true → hit filed.homes found filed.kinds c ≡ true
+  made_hit : (c : ℕ) → c < to → stirs (sets_in code c) (joint_of m) ≡ true → hit filed.homes.now found filed.kinds c ≡ true
   unfolding stirs
   made_hit c h e =
       let d = need_in code c in
       let part : bit_and (get_or filed.masks (kind_of d) 0) (joint_of m) ≡ d =
       ap (λ (x : ℕ). bit_and x (joint_of m)) (f.masks_are (kind_of d) (kind_low d) ∙ mask_there code to c h)
       ∙ part_is d m (covered_part d (joint_of m) (eqb-true (bit_and (joint_of m) d) d e)) in
-      hit_at filed.homes found filed.kinds (kind_of d) c (omega (arith, f.kinds_are, kind_below code to c h)) (f.homes_are c h ∙ sym (found_is d (kind_of d) part))
+      hit_at filed.homes.now found filed.kinds (kind_of d) c (omega (arith, f.kinds_are, kind_below code to c h)) (f.homes_are c h ∙ sym (found_is d (kind_of d) part))
 
   -- The moves of a slot that is hit are made.
-  hit_made : (c : ℕ) → c < to → hit filed.homes found filed.kinds c ≡ true → stirs (sets_in code c) (joint_of m) ≡ true
+  hit_made : (c : ℕ) → c < to → hit filed.homes.now found filed.kinds c ≡ true → stirs (sets_in code c) (joint_of m) ≡ true
   unfolding stirs
   hit_made c h e =
       let d = need_in code c in
-      let (k, q) = hit_some filed.homes found filed.kinds c e in
+      let (k, q) = hit_some filed.homes.now found filed.kinds c e in
       let x = bit_and (get_or filed.masks k 0) (joint_of m) in
       let same : d ≡ x =
       key_injective d x (place_injective (key_of d) (key_of x) (keys_of code to) (home_inside code to c h) (sym (f.homes_are c h) ∙ q ∙ found_is x k refl)) in
@@ -141,7 +141,7 @@ pub given_next : {code : List ℕ} {to : ℕ} {filed : Keys} {l gifts : List ℕ
     → (m : List ℕ) → given (keys_in filed) filed.masks gifts (joint_of m) filed.kinds ≡ next_by code (joint_of m) l
 given_next {code} {to} {filed} {l} f g below m =
     given_hit (keys_in filed) filed.masks g (omega (arith, f.count, ap length f.keys_are)) (joint_of m) filed.kinds
-    ∙ picked_same code (hit filed.homes (found f m) filed.kinds) (λ c. stirs (sets_in code c) (joint_of m)) l
+    ∙ picked_same code (hit filed.homes.now (found f m) filed.kinds) (λ c. stirs (sets_in code c) (joint_of m)) l
     (λ j k. same_test _ _ (hit_made f m (get_or l j 0) (below j k)) (made_hit f m (get_or l j 0) (below j k)))
 
 -- ---- the live slots

@@ -18,7 +18,6 @@ use Rattle.meaning.specs.Filling.{grown}
 use Rattle.meaning.proofs.Explore.{place_in}
 use Rattle.meaning.proofs.Filling.{place_stays, place_end, grown_place, grown_more}
 use Rattle.lookup.specs.Tree.{link_limit}
-use Rattle.lookup.specs.declared.Tree.{Tree}
 use Rattle.lookup.proofs.Place.{place_le, place_here}
 use Rattle.lookup.proofs.Enrolling.{treed_first}
 use Rattle.keys.specs.declared.Keys.{Keys}
@@ -126,19 +125,19 @@ first_hint = record { there = λ i h. there i; low = low; hints_long = length-se
     low (suc h) = omega (arith, zero_at hint_room (suc h))
 
 -- Nothing is filed in empty tables.
-pub filing_start : (code : List ℕ) {tree : Tree} → tree.tests ≡ replicate state_limit 0 → tree.forks ≡ replicate link_limit 0
-    → Filing code 0 (record { keys = replicate key_room 0; tree = tree; hints = set (replicate hint_room 0) 0 1; homes = replicate most_rules 0; masks = replicate kind_room 0; count = 1; kinds = 0 })
+pub filing_start : (code : List ℕ) {k : Keys} → k.keys.now ≡ replicate key_room 0 → k.homes.now ≡ replicate most_rules 0 → k.tree.tests ≡ replicate state_limit 0 → k.tree.forks ≡ replicate link_limit 0
+    → k.hints ≡ set (replicate hint_room 0) 0 1 → k.masks ≡ replicate kind_room 0 → k.count ≡ 1 → k.kinds ≡ 0 → Filing code 0 k
 unfolding keys_of mask_at kinds_of
-filing_start code t f = record {
-  found = record { tree = rw (t, f) (treed_first (replicate key_room 0) (omega arith)); hinted = first_hint };
-  keys_are = refl;
-  count = refl;
+filing_start code {k} e o t f h m n z = record {
+  found = record { tree = rw (t, f, e, n) (treed_first (replicate key_room 0) (omega arith)); hinted = rw (e, h, n) first_hint };
+  keys_are = rw (e, n) refl;
+  count = n;
   homes_are = λ i l. absurd (omega arith);
-  masks_are = λ j l. zero_at kind_room j;
-  kinds_are = refl;
-  keys_long = refl;
-  homes_long = refl;
-  masks_long = refl;
+  masks_are = λ j l. ap (λ (t : List ℕ). get_or t j 0) m ∙ zero_at kind_room j;
+  kinds_are = z;
+  keys_long = ap length e;
+  homes_long = ap length o;
+  masks_long = ap length m;
 }
 
 module _ {code : List ℕ} {c : ℕ} {k : Keys} (f : Filing code c k) where
@@ -163,7 +162,7 @@ module _ {code : List ℕ} {c : ℕ} {k : Keys} (f : Filing code c k) where
         masks_are = λ j l. ap (λ (t : List ℕ). get_or t j 0) h.masks_are ∙ at j l (eqb kind j) refl ∙ mask_suc j;
         kinds_are = h.kinds_are ∙ s ∙ kinds_suc;
         keys_long = h.keys_long ∙ f.keys_long;
-        homes_long = ap length h.homes_are ∙ length-set k.homes c _ ∙ f.homes_long;
+        homes_long = ap length h.homes_are ∙ length-set k.homes.now c _ ∙ f.homes_long;
         masks_long = ap length h.masks_are ∙ length-set k.masks kind mask ∙ f.masks_long;
       }
     where
@@ -202,10 +201,10 @@ module _ {code : List ℕ} {c : ℕ} {k : Keys} (f : Filing code c k) where
       place_is : place key (keys_in k) ≡ place (key_of need) (keys_of code c)
       place_is = ap₂ place key_is f.keys_are
 
-      home : (i : ℕ) → i < suc c → get_or (set k.homes c (place key (keys_in k))) i 0 ≡ place (key_of (need_in code i)) (keys_of code (suc c))
-      home i l = up_to (λ j. get_or (set k.homes c (place key (keys_in k))) j 0 ≡ place (key_of (need_in code j)) (grown (keys_of code c) (key_of need))) c i
-          (get_or-set_same k.homes c _ 0 (omega (arith, f.homes_long)) ∙ place_is ∙ sym (place_new (key_of need) (keys_of code c)))
-          (λ j. get_or-set_other k.homes c i _ 0 (λ e. omega arith) ∙ f.homes_are i j ∙ sym (place_grown (key_of (need_in code i)) (key_of need) (keys_of code c) (home_inside code c i j)))
+      home : (i : ℕ) → i < suc c → get_or (set k.homes.now c (place key (keys_in k))) i 0 ≡ place (key_of (need_in code i)) (keys_of code (suc c))
+      home i l = up_to (λ j. get_or (set k.homes.now c (place key (keys_in k))) j 0 ≡ place (key_of (need_in code j)) (grown (keys_of code c) (key_of need))) c i
+          (get_or-set_same k.homes.now c _ 0 (omega (arith, f.homes_long)) ∙ place_is ∙ sym (place_new (key_of need) (keys_of code c)))
+          (λ j. get_or-set_other k.homes.now c i _ 0 (λ e. omega arith) ∙ f.homes_are i j ∙ sym (place_grown (key_of (need_in code i)) (key_of need) (keys_of code c) (home_inside code c i j)))
           l
 
 -- ---- what is remembered

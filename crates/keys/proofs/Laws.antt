@@ -60,7 +60,7 @@ module _ (kind : ℕ) where
 module _ {k : Keys} (f : Findable k) where
   -- The list has as many keys as there are.
   pub keys_count : length (keys_in k) ≡ k.count
-  keys_count = length-take-le k.count k.keys f.tree.inside
+  keys_count = length-take-le k.count k.keys.now f.tree.inside
 
   -- A place is no higher than their number.
   pub at_low : (key : ℕ) → place key (keys_in k) ≤ k.count
@@ -80,7 +80,7 @@ module _ {k : Keys} (f : Findable k) where
       (le_or_lt k.count (place key (keys_in k)))
 
   -- If a key is the one that is looked for, its place is found.
-  pub find_here : {key at : ℕ} → at < k.count → get_or k.keys at 0 ≡ key → place key (keys_in k) ≡ at
+  pub find_here : {key at : ℕ} → at < k.count → get_or k.keys.now at 0 ≡ key → place key (keys_in k) ≡ at
   find_here h e = ap (λ (x : ℕ). place x (keys_in k)) (sym e) ∙ place_own f.tree _ h
 
 -- One hint more.
@@ -121,24 +121,24 @@ hinted_more {keys} {hints} key f = record {
 
 module _ {k : Keys} (f : Findable k) (key c : ℕ) where
   -- The key is new.
-  pub housed_new : {tree : Tree} {low : ℕ} → place key (keys_in k) ≡ k.count → k.count < length k.keys → Enrolled k.keys k.count key tree.tests tree.forks → low ≡ key % hint_room
-      → Housed key c k (record k { keys = set k.keys k.count key; tree = tree; hints = set k.hints low (k.count + 1); homes = set k.homes c k.count; count = k.count + 1 })
+  pub housed_new : {tree : Tree} {low : ℕ} → place key (keys_in k) ≡ k.count → k.count < length k.keys.now → Enrolled k.keys.now k.count key tree.tests tree.forks → low ≡ key % hint_room
+      → Housed key c k (record k { keys = record k.keys { now = set k.keys.now k.count key }; tree = tree; hints = set k.hints low (k.count + 1); homes = record k.homes { now = set k.homes.now c k.count }; count = k.count + 1 })
   housed_new {low = low} e room tree p =
       let more : keys_in k ++ (key ∷ []) ≡ grown (keys_in k) key =
       sym (ap (λ (b : Bool). cond b (keys_in k) (keys_in k ++ (key ∷ []))) (le-ltb (place key (keys_in k)) (length (keys_in k)) (omega (arith, keys_count f)))) in
-      let taken : take (k.count + 1) (set k.keys k.count key) ≡ keys_in k ++ (key ∷ []) = ap (λ (i : ℕ). take i (set k.keys k.count key)) (add-one k.count) ∙ take-suc-set k.keys k.count key room in
+      let taken : take (k.count + 1) (set k.keys.now k.count key) ≡ keys_in k ++ (key ∷ []) = ap (λ (i : ℕ). take i (set k.keys.now k.count key)) (add-one k.count) ∙ take-suc-set k.keys.now k.count key room in
       let hint_is : length (keys_in k) + 1 ≡ k.count + 1 = ap (λ (i : ℕ). i + 1) (keys_count f) in
       record {
         keys_are = taken ∙ more;
         count = omega (arith, keys_count f, length-append (keys_in k) (key ∷ []), ap length more);
         found = record {
-          tree = tree (set k.keys k.count key) (omega (arith, length-set k.keys k.count key)) (λ i q. get_or-set_other k.keys k.count i key 0 (λ e. omega arith)) (get_or-set_same k.keys k.count key 0 room);
+          tree = tree (set k.keys.now k.count key) (omega (arith, length-set k.keys.now k.count key)) (λ i q. get_or-set_other k.keys.now k.count i key 0 (λ e. omega arith)) (get_or-set_same k.keys.now k.count key 0 room);
           hinted = subst (λ (l : List ℕ). Hinted l (set k.hints low (k.count + 1))) (sym taken)
               (subst (λ (i : ℕ). Hinted (keys_in k ++ (key ∷ [])) (set k.hints i (k.count + 1))) (sym p)
               (subst (λ (v : ℕ). Hinted (keys_in k ++ (key ∷ [])) (set k.hints (key % hint_room) v)) hint_is (hinted_more key f.hinted)));
         };
-        homes_are = ap (set k.homes c) (sym e);
-        keys_long = length-set k.keys k.count key;
+        homes_are = ap (set k.homes.now c) (sym e);
+        keys_long = length-set k.keys.now k.count key;
         masks_are = refl;
         kinds_are = refl;
       }
@@ -183,7 +183,7 @@ module _ (code : List ℕ) (k : Keys) (facts views : ℕ) where
         subst (λ (l : List ℕ). Gathered code k l gifts) same f
 
     -- A live slot gives its member at its home.
-    pub gathered_on : {home gift member : ℕ} → on ≡ true → home ≡ get_or k.homes c 0 → home < length gifts → member ≡ member_in code c → gift ≡ insert (get_or gifts home 0) member
+    pub gathered_on : {home gift member : ℕ} → on ≡ true → home ≡ get_or k.homes.now c 0 → home < length gifts → member ≡ member_in code c → gift ≡ insert (get_or gifts home 0) member
         → Gathered code k (alive code facts views (c + 1)) (set gifts home gift)
     gathered_on {home} {gift} {member} h q room mem g = record {
       gifts_are = λ i low. at i low (eqb home i) refl ∙ sym (more i);
@@ -194,13 +194,13 @@ module _ (code : List ℕ) (k : Keys) (facts views : ℕ) where
         before = alive code facts views c
 
         -- The gift at i, with the slot.
-        more : (i : ℕ) → gift_of code k.homes i (alive code facts views (c + 1)) ≡ cond (eqb home i) (insert (gift_of code k.homes i before) member) (gift_of code k.homes i before)
+        more : (i : ℕ) → gift_of code k.homes.now i (alive code facts views (c + 1)) ≡ cond (eqb home i) (insert (gift_of code k.homes.now i before) member) (gift_of code k.homes.now i before)
         more i =
-            ap (gift_of code k.homes i) (alive_suc code facts views c true (sym h ∙ e))
-            ∙ picked_snoc (λ (s : ℕ). eqb (get_or k.homes s 0) i) code before c
-            ∙ ap₂ (λ (s m : ℕ). cond (eqb s i) (insert (gift_of code k.homes i before) m) (gift_of code k.homes i before)) (sym q) (sym mem)
+            ap (gift_of code k.homes.now i) (alive_suc code facts views c true (sym h ∙ e))
+            ∙ picked_snoc (λ (s : ℕ). eqb (get_or k.homes.now s 0) i) code before c
+            ∙ ap₂ (λ (s m : ℕ). cond (eqb s i) (insert (gift_of code k.homes.now i before) m) (gift_of code k.homes.now i before)) (sym q) (sym mem)
 
-        at : (i : ℕ) → i ≤ k.count → (t : Bool) → eqb home i ≡ t → get_or (set gifts home gift) i 0 ≡ cond (eqb home i) (insert (gift_of code k.homes i before) member) (gift_of code k.homes i before)
+        at : (i : ℕ) → i ≤ k.count → (t : Bool) → eqb home i ≡ t → get_or (set gifts home gift) i 0 ≡ cond (eqb home i) (insert (gift_of code k.homes.now i before) member) (gift_of code k.homes.now i before)
         at i low true v =
             let j : home ≡ i = eqb-true home i v in
             ap (λ (s : ℕ). get_or (set gifts home gift) s 0) (sym j)
@@ -208,11 +208,11 @@ module _ (code : List ℕ) (k : Keys) (facts views : ℕ) where
             ∙ g
             ∙ ap (λ (s : ℕ). insert (get_or gifts s 0) member) j
             ∙ ap (λ (x : ℕ). insert x member) (f.gifts_are i low)
-            ∙ ap (λ (t : Bool). cond t (insert (gift_of code k.homes i before) member) (gift_of code k.homes i before)) (sym v)
+            ∙ ap (λ (t : Bool). cond t (insert (gift_of code k.homes.now i before) member) (gift_of code k.homes.now i before)) (sym v)
         at i low false v =
             get_or-set_other gifts home i gift 0 (λ j. eqb-false home i v (sym j))
             ∙ f.gifts_are i low
-            ∙ ap (λ (t : Bool). cond t (insert (gift_of code k.homes i before) member) (gift_of code k.homes i before)) (sym v)
+            ∙ ap (λ (t : Bool). cond t (insert (gift_of code k.homes.now i before) member) (gift_of code k.homes.now i before)) (sym v)
 
 -- ---- gifts are looked up
 module _ (keys masks gifts : List ℕ) (joint : ℕ) where

@@ -122,11 +122,11 @@ pub record Hinted (keys hints : List ℕ) : Type 0 where
 
 -- The keys that are filed.
 abbrev pub keys_in : Keys → List ℕ
-keys_in k = take k.count k.keys
+keys_in k = take k.count k.keys.now
 
 -- They can be found: they stand in their tree, and each has its hint.
 pub record Findable (k : Keys) : Type 0 where
-  pub tree : Treed k.keys k.count k.tree.tests k.tree.forks
+  pub tree : Treed k.keys.now k.count k.tree.tests k.tree.forks
   pub hinted : Hinted (keys_in k) k.hints
 
 -- A key more, if it is new, and its place is noted in entry c.
@@ -134,8 +134,8 @@ pub record Housed (key c : ℕ) (k k' : Keys) : Type 0 where
   pub keys_are : keys_in k' ≡ grown (keys_in k) key
   pub count : k'.count ≡ length (grown (keys_in k) key)
   pub found : Findable k'
-  pub homes_are : k'.homes ≡ set k.homes c (place key (keys_in k))
-  pub keys_long : length k'.keys ≡ length k.keys
+  pub homes_are : k'.homes.now ≡ set k.homes.now c (place key (keys_in k))
+  pub keys_long : length k'.keys.now ≡ length k.keys.now
   pub masks_are : k'.masks ≡ k.masks
   pub kinds_are : k'.kinds ≡ k.kinds
 
@@ -144,11 +144,11 @@ pub record Filing (code : List ℕ) (c : ℕ) (k : Keys) : Type 0 where
   pub found : Findable k
   pub keys_are : keys_in k ≡ keys_of code c
   pub count : k.count ≡ length (keys_of code c)
-  pub homes_are : (i : ℕ) → i < c → get_or k.homes i 0 ≡ place (key_of (need_in code i)) (keys_of code c)
+  pub homes_are : (i : ℕ) → i < c → get_or k.homes.now i 0 ≡ place (key_of (need_in code i)) (keys_of code c)
   pub masks_are : (j : ℕ) → j < kind_room → get_or k.masks j 0 ≡ mask_at code c j
   pub kinds_are : k.kinds ≡ kinds_of code c
-  pub keys_long : length k.keys ≡ key_room
-  pub homes_long : length k.homes ≡ most_rules
+  pub keys_long : length k.keys.now ≡ key_room
+  pub homes_long : length k.homes.now ≡ most_rules
   pub masks_long : length k.masks ≡ kind_room
 
 -- ---- once a position: what live slots give is gathered by their homes
@@ -158,15 +158,15 @@ gift_of code homes e l = picked_by (λ c. eqb (get_or homes c 0) e) code l
 
 -- The gifts are, for each key and for what has none, what the slots of a list give.
 pub record Gathered (code : List ℕ) (k : Keys) (l gifts : List ℕ) : Type 0 where
-  pub gifts_are : (e : ℕ) → e ≤ k.count → get_or gifts e 0 ≡ gift_of code k.homes e l
+  pub gifts_are : (e : ℕ) → e ≤ k.count → get_or gifts e 0 ≡ gift_of code k.homes.now e l
   pub gifts_long : length gifts ≡ gift_room
 
 -- Each slot below `to` stands in the table of codes, its member can be added to a set, and its home is no higher than the number of keys.
 pub record Homes (code : List ℕ) (to : ℕ) (k : Keys) : Type 0 where
   pub inside : width * to ≤ length code
   pub members : (c : ℕ) → c < to → member_in code c < bits
-  pub homes_long : to ≤ length k.homes
-  pub homes_low : (c : ℕ) → c < to → get_or k.homes c 0 ≤ k.count
+  pub homes_long : to ≤ length k.homes.now
+  pub homes_low : (c : ℕ) → c < to → get_or k.homes.now c 0 ≤ k.count
   pub few : k.count < gift_room
 
 -- ---- once a joint move: the gifts are looked up

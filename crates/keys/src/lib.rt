@@ -35,13 +35,14 @@ const ROLES: u8 = 4;
 const HALF: u64 = 0x100000000;
 
 // The rules, filed by the keys of the moves that they wait for: the keys in their tree, with their hints; each rule's home; the mask of each kind; how many keys there are, and
-// one more than the highest kind. No ghost field says that the keys can be found (`Findable`): the ways of a tree are data, and a ghost field holds facts alone.
+// one more than the highest kind. The tables of keys and homes are lent. No ghost field says that the keys can be found (`Findable`): the ways of a tree are data, and a ghost
+// field holds facts alone.
 #[derive(Drop)]
-pub struct Keys {
-    pub keys: [u64; KEY_ROOM],
+pub struct Keys<'a> {
+    pub keys: &'a mut [u64],
     pub tree: Tree,
     pub hints: [u16; HINT_ROOM],
-    pub homes: [u16; RULE_ROOM],
+    pub homes: &'a mut [u16],
     pub masks: [u64; KIND_ROOM],
     pub count: usize,
     pub kinds: usize,
@@ -151,7 +152,7 @@ fn low_of(key: u64) -> usize
     key as usize % HINT_ROOM
 }
 
-impl Keys {
+impl<'a> Keys<'a> {
     // The place of a key. Mostly a hint tells: there is none where no key has these low digits.
     fn find(&self, key: u64) -> Option<usize>
         requires { Findable self.now }
@@ -163,14 +164,14 @@ impl Keys {
         if self.keys[at] == key {
             return Some(at);
         }
-        self.tree.seek(&self.keys, self.count, key)
+        self.tree.seek(self.keys, self.count, key)
     }
 
     // ---- once a sheet
 
     // A key more, if it is new, and its place noted in entry c.
     fn house(&mut self, key: u64, c: usize)
-        requires { Findable self.old × (self.old.count < key_room) × (c < most_rules) }
+        requires { Findable self.old × (self.old.count < key_room) × (length self.old.keys.now ≡ key_room) × (c < length self.old.homes.now) }
         ensures { Housed key c self.old self.new }
     {
         if let Some(at) = self.find(key) {
@@ -179,8 +180,9 @@ impl Keys {
         }
         let n = self.count;
         self.homes[c] = n as u16;
-        self.tree.enroll(&self.keys, n, key);
-        self.keys[n] = key;
+        let keys = &mut *self.keys;
+        self.tree.enroll(keys, n, key);
+        keys[n] = key;
         self.hints[low_of(key)] = (n + 1) as u16;
         self.count = n + 1;
     }
@@ -199,16 +201,16 @@ impl Keys {
         self.house(key_of(d), c);
     }
 
-    // The slots below `to` are filed.
-    pub fn file(code: &[u64], to: usize) -> Self
-        requires { (width * to ≤ length code.now) × (to ≤ most_rules) }
+    // The slots below `to` are filed, in two empty tables that are lent.
+    pub fn file(code: &[u64], to: usize, keys: &'a mut [u64], homes: &'a mut [u16]) -> Self
+        requires { (width * to ≤ length code.now) × (to ≤ most_rules) × (keys.old ≡ replicate key_room 0) × (homes.old ≡ replicate most_rules 0) }
         ensures { Filing code.now to result }
     {
         let mut filed = Self {
-            keys: [0; KEY_ROOM],
+            keys,
             tree: Tree::new(),
             hints: [0; HINT_ROOM],
-            homes: [0; RULE_ROOM],
+            homes,
             masks: [0; KIND_ROOM],
             count: 1,
             kinds: 0,

@@ -146,7 +146,7 @@ impl Growing<'_> {
         note_counts(offer, roles, k, self.counts);
         self.views[k] = offer.look.views.bits;
         self.starts[k + 1] = (self.listed + m) as u16;
-        offer.gather_at(study.codes, keys, &mut room.gifts);
+        offer.gather_at(&study.codes.code, &study.codes.ends, keys, &mut room.gifts);
         let targets = Targets {
             s: study.s,
             y: study.y,

@@ -13,7 +13,7 @@ mod growing;
 
 use codes::Codes;
 use growing::{Growing, Room};
-use keys::{GIFT_ROOM, Keys, Memo};
+use keys::{GIFT_ROOM, KEY_ROOM, Keys, Memo, RULE_ROOM};
 use lookup::Tree;
 use offer::{Study, initial};
 use sheet::Layout;
@@ -64,7 +64,14 @@ pub fn build(
         codes: &codes,
         moves,
     };
-    let keys = Keys::file(&codes.code, usize::from(codes.ends[0]));
+    let mut keys = [0; KEY_ROOM];
+    let mut homes = [0; RULE_ROOM];
+    let keys = Keys::file(
+        &codes.code,
+        usize::from(codes.ends[0]),
+        &mut keys,
+        &mut homes,
+    );
     let mut room = Room {
         gifts: [0; GIFT_ROOM],
         memo: Memo::new(),

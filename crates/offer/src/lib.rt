@@ -41,7 +41,7 @@ pub struct Targets<'a> {
     pub s: &'a [u8],
     pub y: Layout,
     pub offer: Offer,
-    pub keys: &'a Keys,
+    pub keys: &'a Keys<'a>,
     pub gifts: &'a [u64],
 }
 
@@ -94,12 +94,12 @@ impl Study<'_> {
 
 impl Offer {
     // What the NEXT rules of the position give whose facts and views hold, gathered once for all its joint moves.
-    pub fn gather_at(self, codes: &Codes, keys: &Keys, gifts: &mut [u64])
-        requires { Homes codes.now.code (get_or codes.now.ends 0 0) keys.now × (length gifts.old ≡ gift_room) }
-        ensures { Gathered codes.now.code keys.now (alive codes.now.code self.look.facts.bits self.look.views.bits (get_or codes.now.ends 0 0)) gifts.new }
+    pub fn gather_at(self, code: &[u64], ends: &[u16], keys: &Keys, gifts: &mut [u64])
+        requires { (0 < length ends.now) × Homes code.now (get_or ends.now 0 0) keys.now × (length gifts.old ≡ gift_room) }
+        ensures { Gathered code.now keys.now (alive code.now self.look.facts.bits self.look.views.bits (get_or ends.now 0 0)) gifts.new }
     {
-        let to = usize::from(codes.ends[0]);
-        keys.gather(&codes.code, to, self.look, gifts);
+        let to = usize::from(ends[0]);
+        keys.gather(code, to, self.look, gifts);
     }
 
     // How many joint moves there are.

@@ -1,4 +1,5 @@
 -- `model::build` meets its contract: the codes are the sheet's, and the keys are filed from them.
+use mathlib.Core.Path.{refl}
 use native.Mathlib.Omega.{arith}
 use Rattle.codes.proofs.Fits.{fits_sound}
 use Rattle.offer.proofs.Laws.{file_asks}
@@ -10,4 +11,4 @@ of-codes-requires c =
 
 pub file-keys-requires : goal.file-keys-requires
 file-keys-requires c =
-    let asks = file_asks c.of-codes.ensures.compiled c.of-codes.ensures.sized in (omega (arith, c.from.ensures, asks.0), omega (arith, c.from.ensures, asks.1))
+    let asks = file_asks c.of-codes.ensures.compiled c.of-codes.ensures.sized in (omega (arith, c.from.ensures, asks.0), omega (arith, c.from.ensures, asks.1), refl, refl)

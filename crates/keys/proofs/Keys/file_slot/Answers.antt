@@ -6,7 +6,7 @@ use Rattle.keys.proofs.Keys.file_slot.Goals as goal
 
 pub house-requires : goal.house-requires
 house-requires c =
-    (filing_found c.requires.2 _ _ _, omega (arith, filing_room c.requires.2), c.requires.1)
+    (filing_found c.requires.2 _ _ _, omega (arith, filing_room c.requires.2), c.requires.2.keys_long, omega (arith, c.requires.2.homes_long))
 
 pub returns : goal.returns
 returns c =
