@@ -129,6 +129,11 @@ pub record Findable (k : Keys) : Type 0 where
   pub tree : Treed k.keys.now k.count k.tree.tests k.tree.forks
   pub hinted : Hinted (keys_in k) k.hints
 
+-- The tables are the ones that were lent.
+pub record Lent (k k' : Keys) : Type 0 where
+  pub keys : k'.keys.ghost_name ≡ k.keys.ghost_name
+  pub homes : k'.homes.ghost_name ≡ k.homes.ghost_name
+
 -- A key more, if it is new, and its place is noted in entry c.
 pub record Housed (key c : ℕ) (k k' : Keys) : Type 0 where
   pub keys_are : keys_in k' ≡ grown (keys_in k) key

@@ -6,7 +6,7 @@ ghost use Rattle.sheet.specs.Limits.{most_rules};
 ghost use Rattle.meaning.specs.Lists.{place};
 ghost use Rattle.codes.specs.Codes.{made_by, joint_of};
 ghost use Rattle.codes.specs.Table.{width};
-ghost use Rattle.keys.specs.Keys.{own_moves, kind_of, mask_of, upper_stirred, lower_stirred, key_of, key_room, kind_room, gift_room, hint_room, keys_in, Findable, Housed, Filing, alive, Gathered, Homes, given, Remembers};
+ghost use Rattle.keys.specs.Keys.{own_moves, kind_of, mask_of, upper_stirred, lower_stirred, key_of, key_room, kind_room, gift_room, hint_room, keys_in, Findable, Lent, Housed, Filing, alive, Gathered, Homes, given, Remembers};
 
 use facts::FactSet;
 use firing::{Slot, with_member};
@@ -172,7 +172,8 @@ impl<'a> Keys<'a> {
     // A key more, if it is new, and its place noted in entry c.
     fn house(&mut self, key: u64, c: usize)
         requires { Findable self.old × (self.old.count < key_room) × (length self.old.keys.now ≡ key_room) × (c < length self.old.homes.now) }
-        ensures { Housed key c self.old self.new }
+        ensures lent { Lent self.old self.new }
+        ensures housed { Housed key c self.old self.new }
     {
         if let Some(at) = self.find(key) {
             self.homes[c] = at as u16;
@@ -191,7 +192,8 @@ impl<'a> Keys<'a> {
     #[tactic(auto, using(crate::proofs::Parts::kind_low))]
     fn file_slot(&mut self, code: &[u64], c: usize)
         requires { (width * (c + 1) ≤ length code.now) × (c < most_rules) × Filing code.now c self.old }
-        ensures { Filing code.now (c + 1) self.new }
+        ensures lent { Lent self.old self.new }
+        ensures filing { Filing code.now (c + 1) self.new }
     {
         let d = code[6 * c + 4];
         let kind = kind_of(d);
@@ -204,7 +206,8 @@ impl<'a> Keys<'a> {
     // The slots below `to` are filed, in two empty tables that are lent.
     pub fn file(code: &[u64], to: usize, keys: &'a mut [u64], homes: &'a mut [u16]) -> Self
         requires { (width * to ≤ length code.now) × (to ≤ most_rules) × (keys.old ≡ replicate key_room 0) × (homes.old ≡ replicate most_rules 0) }
-        ensures { Filing code.now to result }
+        ensures lent { (result.keys.ghost_name ≡ keys.entry.ghost_name) × (result.homes.ghost_name ≡ homes.entry.ghost_name) }
+        ensures filing { Filing code.now to result }
     {
         let mut filed = Self {
             keys,
