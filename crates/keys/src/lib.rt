@@ -48,7 +48,7 @@ pub struct Keys<'a> {
     pub kinds: usize,
 }
 
-// For each kind the set of moves that was asked for last, and the place of its key.
+// For each kind the set of moves that was asked for last, and the place of its key. Of which keys it remembers the places stands in contracts (`Remembers`): it does not hold the keys.
 #[derive(Drop)]
 pub struct Memo {
     pub asked: [u64; KIND_ROOM],

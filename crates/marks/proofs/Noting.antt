@@ -1,13 +1,11 @@
 -- Writing one node's bit, position by position.
-use mathlib.Core.Path.{◌≡◌, sym, ap, ap₂, ◌∙◌}
-use mathlib.Core.Bool.{Bool, true, false}
+use mathlib.Core.Path.{◌≡◌, ap, ap₂, ◌∙◌}
+use mathlib.Core.Bool.{Bool}
 use mathlib.Core.List.{List}
 use Prim.Native.Nat.{ℕ, ◌+◌, ◌≤◌, ◌<◌}
 use native.Mathlib.Nat.{le_refl}
 use native.Mathlib.Omega.{arith}
 use lib.ListN.{get_or, set}
-use lib.Seq.{set-get_or}
-use Rattle.facts.specs.Bits.{insert}
 use Rattle.facts.specs.Pack.{add_if}
 use Rattle.atl.specs.Game.{States}
 use Rattle.radix.specs.Classes.{filled}

@@ -158,7 +158,7 @@ impl Growing<'_> {
             .ok_or(Refusal::ManyStates(k))
     }
 
-    // Every state is expanded, in number order.
+    // Every state is expanded, in number order. No `for`: the states that are found on the way are expanded too.
     #[tactic(auto, using(crate::proofs::Expanding::done))]
     fn explore(&mut self, study: Study, keys: &Keys, room: &mut Room) -> Result<(), Refusal>
         requires ready { Ready study }

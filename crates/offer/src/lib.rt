@@ -36,6 +36,7 @@ pub struct Offer {
 }
 
 // Where a position's joint moves are looked up: what it offers, the keys of the sheet's rules, and the gifts that were gathered for it.
+// `Whole` and `Serves` stay clauses, as `Ready` does for a `Study`: their parts are data.
 #[derive(Clone, Copy)]
 pub struct Targets<'a> {
     pub s: &'a [u8],
