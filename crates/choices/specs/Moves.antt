@@ -27,7 +27,7 @@ unfoldable pub total : List ℕ → ℕ
 total [] = 1
 total (s ∷ ss) = length (members s) * total ss
 
--- the joint move of number j, a move for each role, the first role slowest
+-- the joint move of number j, a move for each role, the first role slowest; 16 stands where a set has no such member
 unfoldable pub decode : List ℕ → ℕ → List ℕ
 decode [] j = []
 decode (s ∷ ss) j = get_or (members s) (j / total ss) 16 ∷ decode ss (j % total ss)

@@ -115,7 +115,7 @@ impl<'a> Sets<'a> {
 }
 
 impl Choices {
-    // How many joint moves the state has: the product over the roles that take part.
+    // How many joint moves the state has: the product over the roles that take part. `roles ≤ 4` stays a clause: a type for a number of roles would be no plainer.
     pub fn joint_moves(self, roles: usize) -> u32
         requires { roles ≤ 4 }
         ensures { result ≡ total (take roles self.sets) }

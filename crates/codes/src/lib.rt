@@ -45,7 +45,7 @@ pub fn place_of(p: Part) -> u8
     }
 }
 
-// The literal into the set of its kind.
+// The literal into the set of its kind: the set's place is the kind's number less one, as `noted` has it.
 #[tactic(auto, unfolding(crate::specs::Codes::noted))]
 pub fn note(w: &mut Sets, p: Part)
     requires { (1 ≤ p.kind) × (p.kind ≤ 5) × (place_of p < bits) }

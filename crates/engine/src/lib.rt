@@ -40,7 +40,7 @@ pub struct Solved {
 }
 
 impl Refusal {
-    // Document 01's number.
+    // Document 01's number. The definition `number_of` gives it, and an enum that carries values has no `as`.
     pub fn number(self) -> u8
         ensures { result ≡ number_of self }
     {
@@ -97,7 +97,8 @@ impl From<model::Refusal> for Refusal {
     }
 }
 
-// The game of a stratified sheet is built, and its question answered. The six tables come one by one, as document 01 has them.
+// The game of a stratified sheet is built, and its question answered. The six tables come one by one: a struct of the six was
+// tried, and behind a `&mut` a slice that is lent on loses its value in the contract.
 fn play(
     s: &[u8],
     layout: Layout,

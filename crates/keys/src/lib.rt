@@ -36,7 +36,7 @@ const HALF: u64 = 0x100000000;
 
 // The rules, filed by the keys of the moves that they wait for: the keys in their tree, with their hints; each rule's home; the mask of each kind; how many keys there are, and
 // one more than the highest kind. The tables of keys and homes are lent. No ghost field says that the keys can be found (`Findable`): the ways of a tree are data, and a ghost
-// field holds facts alone.
+// field holds facts alone. A hint is a place and one, 0 for none: an `Option` a hint would take twice the memory.
 #[derive(Drop)]
 pub struct Keys<'a> {
     pub keys: &'a mut [u64],

@@ -2,7 +2,7 @@
 
 ghost use Rattle.std.specs.Prelude.{◌≤◌, length};
 
-// What the rounds and choices tables hold where there is no count or no choice.
+// What the rounds and choices tables hold where there is no count or no choice, by document 01.
 const ABSENT: u16 = 65535;
 
 // A lent buffer, and where the text in it ends.

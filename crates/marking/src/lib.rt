@@ -117,6 +117,7 @@ pub fn begin(start: Marked, want: bool, rounds: &mut [u16])
 }
 
 // The choice of position `i`, which has none at count 0 and where there is no count: else the lowest that secures the positions of a lower count.
+// Where none secures them it is the number of joint moves, as `choice` has it, a definition that keeps its meaning.
 fn choose(board: Board, rounds: &[u16], i: usize, flags: &mut [u16]) -> u16
     requires { Tried board rounds.now i flags.old }
     ensures { result ≡ choice_of (game_of board.entry) rounds.now i }

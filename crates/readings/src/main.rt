@@ -21,7 +21,7 @@ fn show_reading(s: &[u8]) {
     }
 }
 
-// Each sheet up to the first that is cut.
+// Each sheet up to the first that is cut. No `for`: how many sheets stand in the stream is not known before.
 fn each(mut stream: &[u8]) {
     while let &[low, high, ref rest @ ..] = stream {
         let n = usize::from(u16::from_le_bytes([low, high]));

@@ -38,7 +38,7 @@ fn last_at(s: &[u8], y: Layout) -> Last
     }
 }
 
-// The last node of a sheet; one that does not read has none.
+// The last node of a sheet; one that does not read has none, and number 0 stands for it in `last_in`, a definition that keeps its meaning.
 fn last_in(s: &[u8]) -> Last
     ensures { result ≡ last_in s.now (read_sheet s.now) }
 {
