@@ -145,7 +145,8 @@ pub fn encode_levels(rules: Rules, masks: &[u64; 64], codes: &mut Codes, from: u
 // ---- the whole sheet
 
 impl Codes {
-    // The codes of NEXT, of LEGAL, of TERMINAL and of the views level by level, and the slot after each stretch.
+    // The codes of NEXT, of LEGAL, of TERMINAL and of the views level by level, and the slot after each stretch. Not inlined, so that the tables stand once on the caller's stack.
+    #[inline(never)]
     pub fn of(rules: Rules, masks: &[u64; 64]) -> Codes
         requires { AllSound (rules_of rules) × (length (rules_of rules) ≤ most_rules) × (masks.now ≡ masks_of (rules_of rules)) }
         ensures compiled { Compiled (rules_of rules.entry) masks.now result.code result.ends }

@@ -203,7 +203,8 @@ impl<'a> Keys<'a> {
         self.house(key_of(d), c);
     }
 
-    // The slots below `to` are filed, in two empty tables that are lent.
+    // The slots below `to` are filed, in two empty tables that are lent. Not inlined, so that the tables stand once on the caller's stack.
+    #[inline(never)]
     pub fn file(code: &[u64], to: usize, keys: &'a mut [u64], homes: &'a mut [u16]) -> Self
         requires { (width * to ≤ length code.now) × (to ≤ most_rules) × (keys.old ≡ replicate key_room 0) × (homes.old ≡ replicate most_rules 0) }
         ensures lent { (result.keys.ghost_name ≡ keys.entry.ghost_name) × (result.homes.ghost_name ≡ homes.entry.ghost_name) }
