@@ -1,7 +1,7 @@
 // The rules of a sheet as codes: a body as five sets of numbers, and the member that its head adds.
 #![tactic(auto)]
 
-ghost use Rattle.std.specs.Prelude.{◌≡◌, [], ◌∷◌, ◌++◌, ◌+◌, ◌*◌, ◌<◌, ◌≤◌, length, replicate};
+ghost use Rattle.std.specs.Prelude.{◌≡◌, [], ◌∷◌, ◌++◌, ◌+◌, ◌*◌, ◌<◌, ◌≤◌, length};
 ghost use Rattle.std.proofs.lemmas.List.Edits.{sets};
 ghost use Rattle.sheet.specs.Limits.{most_rules};
 ghost use Rattle.sheet.specs.Records.{literals, rule_of, rules_of};
@@ -145,26 +145,20 @@ pub fn encode_levels(rules: Rules, masks: &[u64; 64], codes: &mut Codes, from: u
 // ---- the whole sheet
 
 impl Codes {
-    // The codes of NEXT, of LEGAL, of TERMINAL and of the views level by level, and the slot after each stretch. Not inlined, so that the tables stand once on the caller's stack.
-    #[inline(never)]
-    pub fn of(rules: Rules, masks: &[u64; 64]) -> Codes
+    // The codes of NEXT, of LEGAL, of TERMINAL and of the views level by level, and the slot after each stretch, written over what the tables hold.
+    pub fn fill(&mut self, rules: Rules, masks: &[u64; 64])
         requires { AllSound (rules_of rules) × (length (rules_of rules) ≤ most_rules) × (masks.now ≡ masks_of (rules_of rules)) }
-        ensures compiled { Compiled (rules_of rules.entry) masks.now result.code result.ends }
-        ensures sized { Sized result.code result.ends }
-        ensures table { result.code ≡ compiled (rules_of rules.entry) masks.now (replicate 3072 0) }
-        ensures places { result.ends ≡ ends_of (rules_of rules.entry) masks.now }
+        ensures compiled { Compiled (rules_of rules.entry) masks.now self.new.code self.new.ends }
+        ensures sized { Sized self.new.code self.new.ends }
+        ensures table { self.new.code ≡ compiled (rules_of rules.entry) masks.now self.old.code }
+        ensures places { self.new.ends ≡ ends_of (rules_of rules.entry) masks.now }
     {
-        let mut codes = Codes {
-            code: [0; CODE_ROOM],
-            ends: [0; ENDS_ROOM],
-        };
-        let a = encode(rules, Ask::Next, &mut codes.code, 0);
-        let b = encode(rules, Ask::Legals, &mut codes.code, a);
-        let c = encode(rules, Ask::Terminal, &mut codes.code, b);
-        codes.ends[0] = a as u16;
-        codes.ends[1] = b as u16;
-        codes.ends[2] = c as u16;
-        encode_levels(rules, masks, &mut codes, c);
-        codes
+        let a = encode(rules, Ask::Next, &mut self.code, 0);
+        let b = encode(rules, Ask::Legals, &mut self.code, a);
+        let c = encode(rules, Ask::Terminal, &mut self.code, b);
+        self.ends[0] = a as u16;
+        self.ends[1] = b as u16;
+        self.ends[2] = c as u16;
+        encode_levels(rules, masks, self, c);
     }
 }

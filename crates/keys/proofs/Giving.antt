@@ -88,14 +88,14 @@ module _ (homes : List ℕ) (at : ℕ → ℕ) where
   hit_some (suc k) c e = ⊎_elim (hit_some k c) (λ q. (k, eqb-true (get_or homes c 0) (at k) q)) (or_split (hit homes at k c) (eqb (get_or homes c 0) (at k)) e)
 
 -- What the gifts have is what the slots give that are hit.
-given_hit : {code : List ℕ} {filed : Keys} {l gifts : List ℕ} (keys masks : List ℕ) → Gathered code filed l gifts → length keys ≤ filed.count
-    → (joint k : ℕ) → given keys masks gifts joint k ≡ picked_by (hit filed.homes.now (place_at keys masks joint) k) code l
+given_hit : {code homes : List ℕ} {n : ℕ} {l gifts : List ℕ} (keys masks : List ℕ) → Gathered code homes n l gifts → length keys ≤ n
+    → (joint k : ℕ) → given keys masks gifts joint k ≡ picked_by (hit homes (place_at keys masks joint) k) code l
 unfolding given
-given_hit {code} {filed} {l} {gifts} keys masks g h joint zero = sym (picked_none code l)
-given_hit {code} {filed} {l} {gifts} keys masks g h joint (suc k) =
+given_hit {code} {homes} {n} {l} {gifts} keys masks g h joint zero = sym (picked_none code l)
+given_hit {code} {homes} {n} {l} {gifts} keys masks g h joint (suc k) =
     let x = key_of (bit_and (get_or masks k 0) joint) in
     ap₂ bit_or (given_hit keys masks g h joint k) (g.gifts_are (place_at keys masks joint k) (omega (arith, h, place_le x keys)))
-    ∙ picked_either code (hit filed.homes.now (place_at keys masks joint) k) (λ c. eqb (get_or filed.homes.now c 0) (place_at keys masks joint k)) l
+    ∙ picked_either code (hit homes (place_at keys masks joint) k) (λ c. eqb (get_or homes c 0) (place_at keys masks joint k)) l
 
 -- ---- the joint move has the moves of a slot
 -- What two sets have is a part of the second.
@@ -106,42 +106,42 @@ meet_covered x y = same_set _ _ (λ i. omega (arith, bit-and y (bit_and x y) i, 
 covered_part : (x y : ℕ) → bit_and y x ≡ x → x ⊆ y
 covered_part x y e i h = omega (arith, h, bit-and y x i, ap (λ (z : ℕ). bit z i) e)
 
-module _ {code : List ℕ} {to : ℕ} {filed : Keys} (f : Filing code to filed) (m : List ℕ) where
+module _ {code : List ℕ} {to : ℕ} {table homes : List ℕ} {filed : Keys} (f : Filing code to table homes filed) (m : List ℕ) where
   -- The place of the key that is looked up for a kind.
   abbrev found : ℕ → ℕ
-  found = place_at (keys_in filed) filed.masks (joint_of m)
+  found = place_at (keys_in table filed) filed.masks (joint_of m)
 
   -- It is looked up among the keys of the slots.
   found_is : (x k : ℕ) → bit_and (get_or filed.masks k 0) (joint_of m) ≡ x → found k ≡ place (key_of x) (keys_of code to)
   found_is x k e = ap₂ (λ (y : ℕ) (l : List ℕ). place (key_of y) l) e f.keys_are
 
   -- A slot whose moves are made is hit.
-  made_hit : (c : ℕ) → c < to → stirs (sets_in code c) (joint_of m) ≡ true → hit filed.homes.now found filed.kinds c ≡ true
+  made_hit : (c : ℕ) → c < to → stirs (sets_in code c) (joint_of m) ≡ true → hit homes found filed.kinds c ≡ true
   unfolding stirs
   made_hit c h e =
       let d = need_in code c in
       let part : bit_and (get_or filed.masks (kind_of d) 0) (joint_of m) ≡ d =
       ap (λ (x : ℕ). bit_and x (joint_of m)) (f.masks_are (kind_of d) (kind_low d) ∙ mask_there code to c h)
       ∙ part_is d m (covered_part d (joint_of m) (eqb-true (bit_and (joint_of m) d) d e)) in
-      hit_at filed.homes.now found filed.kinds (kind_of d) c (omega (arith, f.kinds_are, kind_below code to c h)) (f.homes_are c h ∙ sym (found_is d (kind_of d) part))
+      hit_at homes found filed.kinds (kind_of d) c (omega (arith, f.kinds_are, kind_below code to c h)) (f.homes_are c h ∙ sym (found_is d (kind_of d) part))
 
   -- The moves of a slot that is hit are made.
-  hit_made : (c : ℕ) → c < to → hit filed.homes.now found filed.kinds c ≡ true → stirs (sets_in code c) (joint_of m) ≡ true
+  hit_made : (c : ℕ) → c < to → hit homes found filed.kinds c ≡ true → stirs (sets_in code c) (joint_of m) ≡ true
   unfolding stirs
   hit_made c h e =
       let d = need_in code c in
-      let (k, q) = hit_some filed.homes.now found filed.kinds c e in
+      let (k, q) = hit_some homes found filed.kinds c e in
       let x = bit_and (get_or filed.masks k 0) (joint_of m) in
       let same : d ≡ x =
       key_injective d x (place_injective (key_of d) (key_of x) (keys_of code to) (home_inside code to c h) (sym (f.homes_are c h) ∙ q ∙ found_is x k refl)) in
       eq-eqb (bit_and (joint_of m) d) d (ap (bit_and (joint_of m)) same ∙ meet_covered (get_or filed.masks k 0) (joint_of m) ∙ sym same)
 
 -- THE theorem: what the gifts have for a joint move, over all kinds, is what the slots give.
-pub given_next : {code : List ℕ} {to : ℕ} {filed : Keys} {l gifts : List ℕ} → Filing code to filed → Gathered code filed l gifts → ((j : ℕ) → j < length l → get_or l j 0 < to)
-    → (m : List ℕ) → given (keys_in filed) filed.masks gifts (joint_of m) filed.kinds ≡ next_by code (joint_of m) l
-given_next {code} {to} {filed} {l} f g below m =
-    given_hit (keys_in filed) filed.masks g (omega (arith, f.count, ap length f.keys_are)) (joint_of m) filed.kinds
-    ∙ picked_same code (hit filed.homes.now (found f m) filed.kinds) (λ c. stirs (sets_in code c) (joint_of m)) l
+pub given_next : {code : List ℕ} {to : ℕ} {table homes : List ℕ} {filed : Keys} {l gifts : List ℕ} → Filing code to table homes filed → Gathered code homes filed.count l gifts → ((j : ℕ) → j < length l → get_or l j 0 < to)
+    → (m : List ℕ) → given (keys_in table filed) filed.masks gifts (joint_of m) filed.kinds ≡ next_by code (joint_of m) l
+given_next {code} {to} {table} {homes} {filed} {l} f g below m =
+    given_hit (keys_in table filed) filed.masks g (omega (arith, f.count, ap length f.keys_are)) (joint_of m) filed.kinds
+    ∙ picked_same code (hit homes (found f m) filed.kinds) (λ c. stirs (sets_in code c) (joint_of m)) l
     (λ j k. same_test _ _ (hit_made f m (get_or l j 0) (below j k)) (made_hit f m (get_or l j 0) (below j k)))
 
 -- ---- the live slots

@@ -125,10 +125,10 @@ first_hint = record { there = λ i h. there i; low = low; hints_long = length-se
     low (suc h) = omega (arith, zero_at hint_room (suc h))
 
 -- Nothing is filed in empty tables.
-pub filing_start : (code : List ℕ) {k : Keys} → k.keys.now ≡ replicate key_room 0 → k.homes.now ≡ replicate most_rules 0 → k.tree.tests ≡ replicate state_limit 0 → k.tree.forks ≡ replicate link_limit 0
-    → k.hints ≡ set (replicate hint_room 0) 0 1 → k.masks ≡ replicate kind_room 0 → k.count ≡ 1 → k.kinds ≡ 0 → Filing code 0 k
+pub filing_start : (code : List ℕ) {table homes : List ℕ} {k : Keys} → table ≡ replicate key_room 0 → homes ≡ replicate most_rules 0 → k.tree.tests ≡ replicate state_limit 0 → k.tree.forks ≡ replicate link_limit 0
+    → k.hints ≡ set (replicate hint_room 0) 0 1 → k.masks ≡ replicate kind_room 0 → k.count ≡ 1 → k.kinds ≡ 0 → Filing code 0 table homes k
 unfolding keys_of mask_at kinds_of
-filing_start code {k} e o t f h m n z = record {
+filing_start code {table} {homes} {k} e o t f h m n z = record {
   found = record { tree = rw (t, f, e, n) (treed_first (replicate key_room 0) (omega arith)); hinted = rw (e, h, n) first_hint };
   keys_are = rw (e, n) refl;
   count = n;
@@ -140,21 +140,21 @@ filing_start code {k} e o t f h m n z = record {
   masks_long = ap length m;
 }
 
-module _ {code : List ℕ} {c : ℕ} {k : Keys} (f : Filing code c k) where
+module _ {code : List ℕ} {c : ℕ} {table homes : List ℕ} {k : Keys} (f : Filing code c table homes k) where
   -- There is room for a key more.
   pub filing_room : k.count ≤ c + 1
   filing_room = omega (arith, f.count, keys_few code c)
 
   -- The mask and the number of kinds have no part in finding a key.
-  pub filing_found : (kind mask kinds : ℕ) → Findable (record k { masks = set k.masks kind mask; kinds = kinds })
+  pub filing_found : (kind mask kinds : ℕ) → Findable table (record k { masks = set k.masks kind mask; kinds = kinds })
   filing_found kind mask kinds = record { tree = f.found.tree; hinted = f.found.hinted }
 
   -- One slot more.
-  pub filing_on : {d key kind mask kinds : ℕ} {k' : Keys} → c < most_rules → d ≡ need_in code c → kind ≡ kind_of d → mask ≡ mask_of kind → kinds ≡ max k.kinds (kind + 1)
-      → key ≡ key_of d → Housed key c (record k { masks = set k.masks kind mask; kinds = kinds }) k' → Filing code (c + 1) k'
+  pub filing_on : {d key kind mask kinds : ℕ} {table' homes' : List ℕ} {k' : Keys} → c < most_rules → d ≡ need_in code c → kind ≡ kind_of d → mask ≡ mask_of kind → kinds ≡ max k.kinds (kind + 1)
+      → key ≡ key_of d → Housed key c table homes (record k { masks = set k.masks kind mask; kinds = kinds }) table' homes' k' → Filing code (c + 1) table' homes' k'
   unfolding keys_of mask_at kinds_of
-  filing_on {d} {key} {kind} {mask} {kinds} {k'} room p q r s v h =
-      subst (λ (i : ℕ). Filing code i k') (sym (add-one c)) record {
+  filing_on {d} {key} {kind} {mask} {kinds} {table'} {homes'} {k'} room p q r s v h =
+      subst (λ (i : ℕ). Filing code i table' homes' k') (sym (add-one c)) record {
         found = h.found;
         keys_are = h.keys_are ∙ grown_is;
         count = h.count ∙ ap length grown_is;
@@ -162,7 +162,7 @@ module _ {code : List ℕ} {c : ℕ} {k : Keys} (f : Filing code c k) where
         masks_are = λ j l. ap (λ (t : List ℕ). get_or t j 0) h.masks_are ∙ at j l (eqb kind j) refl ∙ mask_suc j;
         kinds_are = h.kinds_are ∙ s ∙ kinds_suc;
         keys_long = h.keys_long ∙ f.keys_long;
-        homes_long = ap length h.homes_are ∙ length-set k.homes.now c _ ∙ f.homes_long;
+        homes_long = ap length h.homes_are ∙ length-set homes c _ ∙ f.homes_long;
         masks_long = ap length h.masks_are ∙ length-set k.masks kind mask ∙ f.masks_long;
       }
     where
@@ -176,7 +176,7 @@ module _ {code : List ℕ} {c : ℕ} {k : Keys} (f : Filing code c k) where
       key_is : key ≡ key_of need
       key_is = v ∙ ap key_of p
 
-      grown_is : grown (keys_in k) key ≡ keys_of code (suc c)
+      grown_is : grown (keys_in table k) key ≡ keys_of code (suc c)
       grown_is = ap₂ grown f.keys_are key_is
 
       mask_suc : (j : ℕ) → cond (eqb kind j) (mask_of j) (mask_at code c j) ≡ mask_at code (suc c) j
@@ -198,13 +198,13 @@ module _ {code : List ℕ} {c : ℕ} {k : Keys} (f : Filing code c k) where
           get_or-set_other k.masks kind j mask 0 (λ o. eqb-false kind j e (sym o)) ∙ f.masks_are j l ∙ ap (λ (t : Bool). cond t (mask_of j) (mask_at code c j)) (sym e)
 
       -- The home of each slot.
-      place_is : place key (keys_in k) ≡ place (key_of need) (keys_of code c)
+      place_is : place key (keys_in table k) ≡ place (key_of need) (keys_of code c)
       place_is = ap₂ place key_is f.keys_are
 
-      home : (i : ℕ) → i < suc c → get_or (set k.homes.now c (place key (keys_in k))) i 0 ≡ place (key_of (need_in code i)) (keys_of code (suc c))
-      home i l = up_to (λ j. get_or (set k.homes.now c (place key (keys_in k))) j 0 ≡ place (key_of (need_in code j)) (grown (keys_of code c) (key_of need))) c i
-          (get_or-set_same k.homes.now c _ 0 (omega (arith, f.homes_long)) ∙ place_is ∙ sym (place_new (key_of need) (keys_of code c)))
-          (λ j. get_or-set_other k.homes.now c i _ 0 (λ e. omega arith) ∙ f.homes_are i j ∙ sym (place_grown (key_of (need_in code i)) (key_of need) (keys_of code c) (home_inside code c i j)))
+      home : (i : ℕ) → i < suc c → get_or (set homes c (place key (keys_in table k))) i 0 ≡ place (key_of (need_in code i)) (keys_of code (suc c))
+      home i l = up_to (λ j. get_or (set homes c (place key (keys_in table k))) j 0 ≡ place (key_of (need_in code j)) (grown (keys_of code c) (key_of need))) c i
+          (get_or-set_same homes c _ 0 (omega (arith, f.homes_long)) ∙ place_is ∙ sym (place_new (key_of need) (keys_of code c)))
+          (λ j. get_or-set_other homes c i _ 0 (λ e. omega arith) ∙ f.homes_are i j ∙ sym (place_grown (key_of (need_in code i)) (key_of need) (keys_of code c) (home_inside code c i j)))
           l
 
 -- ---- what is remembered
@@ -220,13 +220,13 @@ first_place code (suc c) =
     some (suc c) = omega (arith, some c, (length_grown (key_of (need_in code c)) (keys_of code c)).0)
 
 -- Empty tables remember the first key.
-pub memo_start : {code : List ℕ} {c : ℕ} {k : Keys} {m : Memo} → Filing code c k → m.asked ≡ replicate kind_room 0 → m.places ≡ replicate kind_room 0 → Remembers (keys_in k) m
+pub memo_start : {code : List ℕ} {c : ℕ} {table homes : List ℕ} {k : Keys} {m : Memo} → Filing code c table homes k → m.asked ≡ replicate kind_room 0 → m.places ≡ replicate kind_room 0 → Remembers (keys_in table k) m
 unfolding key_of upper_stirred lower_stirred
-memo_start {code} {c} {k} {m} f a p = record {
+memo_start {code} {c} {table} {homes} {k} {m} f a p = record {
   places_are = λ j h.
       ap (λ (l : List ℕ). get_or l j 0) p
       ∙ zero_at kind_room j
-      ∙ sym (ap (λ (x : ℕ). place (key_of x) (keys_in k)) (ap (λ (l : List ℕ). get_or l j 0) a ∙ zero_at kind_room j) ∙ ap (place 0) f.keys_are ∙ first_place code c);
+      ∙ sym (ap (λ (x : ℕ). place (key_of x) (keys_in table k)) (ap (λ (l : List ℕ). get_or l j 0) a ∙ zero_at kind_room j) ∙ ap (place 0) f.keys_are ∙ first_place code c);
   asked_long = ap length a;
   places_long = ap length p;
 }

@@ -57,31 +57,31 @@ module _ (kind : ℕ) where
   moves_more r = ap (moves_in kind) (add-one r)
 
 -- ---- a key comes in
-module _ {k : Keys} (f : Findable k) where
+module _ {table : List ℕ} {k : Keys} (f : Findable table k) where
   -- The list has as many keys as there are.
-  pub keys_count : length (keys_in k) ≡ k.count
-  keys_count = length-take-le k.count k.keys.now f.tree.inside
+  pub keys_count : length (keys_in table k) ≡ k.count
+  keys_count = length-take-le k.count table f.tree.inside
 
   -- A place is no higher than their number.
-  pub at_low : (key : ℕ) → place key (keys_in k) ≤ k.count
-  at_low key = omega (arith, place_le key (keys_in k), keys_count)
+  pub at_low : (key : ℕ) → place key (keys_in table k) ≤ k.count
+  at_low key = omega (arith, place_le key (keys_in table k), keys_count)
 
   -- A hint names a key.
   pub hint_low : (h : ℕ) → get_or k.hints h 0 ≤ k.count
   hint_low h = omega (arith, f.hinted.low h, keys_count)
 
   -- Where there is no hint, there is no such key.
-  pub find_none : (key : ℕ) {low : ℕ} → low ≡ key % hint_room → get_or k.hints low 0 ≡ 0 → place key (keys_in k) ≡ k.count
+  pub find_none : (key : ℕ) {low : ℕ} → low ≡ key % hint_room → get_or k.hints low 0 ≡ 0 → place key (keys_in table k) ≡ k.count
   find_none key p z = ⊎_elim
       (λ h. omega (arith, at_low key))
       (λ h.
-      let inside : place key (keys_in k) < length (keys_in k) = omega (arith, keys_count) in
-      absurd (f.hinted.there (place key (keys_in k)) inside (ap (λ (x : ℕ). get_or k.hints (x % hint_room) 0) (place_here key (keys_in k) inside) ∙ sym (ap (λ (i : ℕ). get_or k.hints i 0) p) ∙ z)))
-      (le_or_lt k.count (place key (keys_in k)))
+      let inside : place key (keys_in table k) < length (keys_in table k) = omega (arith, keys_count) in
+      absurd (f.hinted.there (place key (keys_in table k)) inside (ap (λ (x : ℕ). get_or k.hints (x % hint_room) 0) (place_here key (keys_in table k) inside) ∙ sym (ap (λ (i : ℕ). get_or k.hints i 0) p) ∙ z)))
+      (le_or_lt k.count (place key (keys_in table k)))
 
   -- If a key is the one that is looked for, its place is found.
-  pub find_here : {key at : ℕ} → at < k.count → get_or k.keys.now at 0 ≡ key → place key (keys_in k) ≡ at
-  find_here h e = ap (λ (x : ℕ). place x (keys_in k)) (sym e) ∙ place_own f.tree _ h
+  pub find_here : {key at : ℕ} → at < k.count → get_or table at 0 ≡ key → place key (keys_in table k) ≡ at
+  find_here h e = ap (λ (x : ℕ). place x (keys_in table k)) (sym e) ∙ place_own f.tree _ h
 
 -- One hint more.
 hinted_more : {keys hints : List ℕ} (key : ℕ) → Hinted keys hints → Hinted (keys ++ (key ∷ [])) (set hints (key % hint_room) (length keys + 1))
@@ -119,26 +119,26 @@ hinted_more {keys} {hints} key f = record {
         omega (arith, ap (λ (i : ℕ). get_or (set hints at more) i 0) (eqb-true h at q), get_or-set_same hints at more 0 room, length-append keys (key ∷ []))
     low h false q = omega (arith, get_or-set_other hints at h more 0 (eqb-false h at q), f.low h, length-append keys (key ∷ []))
 
-module _ {k : Keys} (f : Findable k) (key c : ℕ) where
+module _ {table : List ℕ} {k : Keys} (f : Findable table k) (key c : ℕ) (homes : List ℕ) where
   -- The key is new.
-  pub housed_new : {tree : Tree} {low : ℕ} → place key (keys_in k) ≡ k.count → k.count < length k.keys.now → Enrolled k.keys.now k.count key tree.tests tree.forks → low ≡ key % hint_room
-      → Housed key c k (record k { keys = record k.keys { now = set k.keys.now k.count key }; tree = tree; hints = set k.hints low (k.count + 1); homes = record k.homes { now = set k.homes.now c k.count }; count = k.count + 1 })
+  pub housed_new : {tree : Tree} {low : ℕ} → place key (keys_in table k) ≡ k.count → k.count < length table → Enrolled table k.count key tree.tests tree.forks → low ≡ key % hint_room
+      → Housed key c table homes k (set table k.count key) (set homes c k.count) (record k { tree = tree; hints = set k.hints low (k.count + 1); count = k.count + 1 })
   housed_new {low = low} e room tree p =
-      let more : keys_in k ++ (key ∷ []) ≡ grown (keys_in k) key =
-      sym (ap (λ (b : Bool). cond b (keys_in k) (keys_in k ++ (key ∷ []))) (le-ltb (place key (keys_in k)) (length (keys_in k)) (omega (arith, keys_count f)))) in
-      let taken : take (k.count + 1) (set k.keys.now k.count key) ≡ keys_in k ++ (key ∷ []) = ap (λ (i : ℕ). take i (set k.keys.now k.count key)) (add-one k.count) ∙ take-suc-set k.keys.now k.count key room in
-      let hint_is : length (keys_in k) + 1 ≡ k.count + 1 = ap (λ (i : ℕ). i + 1) (keys_count f) in
+      let more : keys_in table k ++ (key ∷ []) ≡ grown (keys_in table k) key =
+      sym (ap (λ (b : Bool). cond b (keys_in table k) (keys_in table k ++ (key ∷ []))) (le-ltb (place key (keys_in table k)) (length (keys_in table k)) (omega (arith, keys_count f)))) in
+      let taken : take (k.count + 1) (set table k.count key) ≡ keys_in table k ++ (key ∷ []) = ap (λ (i : ℕ). take i (set table k.count key)) (add-one k.count) ∙ take-suc-set table k.count key room in
+      let hint_is : length (keys_in table k) + 1 ≡ k.count + 1 = ap (λ (i : ℕ). i + 1) (keys_count f) in
       record {
         keys_are = taken ∙ more;
-        count = omega (arith, keys_count f, length-append (keys_in k) (key ∷ []), ap length more);
+        count = omega (arith, keys_count f, length-append (keys_in table k) (key ∷ []), ap length more);
         found = record {
-          tree = tree (set k.keys.now k.count key) (omega (arith, length-set k.keys.now k.count key)) (λ i q. get_or-set_other k.keys.now k.count i key 0 (λ e. omega arith)) (get_or-set_same k.keys.now k.count key 0 room);
+          tree = tree (set table k.count key) (omega (arith, length-set table k.count key)) (λ i q. get_or-set_other table k.count i key 0 (λ e. omega arith)) (get_or-set_same table k.count key 0 room);
           hinted = subst (λ (l : List ℕ). Hinted l (set k.hints low (k.count + 1))) (sym taken)
-              (subst (λ (i : ℕ). Hinted (keys_in k ++ (key ∷ [])) (set k.hints i (k.count + 1))) (sym p)
-              (subst (λ (v : ℕ). Hinted (keys_in k ++ (key ∷ [])) (set k.hints (key % hint_room) v)) hint_is (hinted_more key f.hinted)));
+              (subst (λ (i : ℕ). Hinted (keys_in table k ++ (key ∷ [])) (set k.hints i (k.count + 1))) (sym p)
+              (subst (λ (v : ℕ). Hinted (keys_in table k ++ (key ∷ [])) (set k.hints (key % hint_room) v)) hint_is (hinted_more key f.hinted)));
         };
-        homes_are = ap (set k.homes.now c) (sym e);
-        keys_long = length-set k.keys.now k.count key;
+        homes_are = ap (set homes c) (sym e);
+        keys_long = length-set table k.count key;
         masks_are = refl;
         kinds_are = refl;
       }
@@ -159,32 +159,32 @@ pub picked_snoc : (p : ℕ → Bool) (code l : List ℕ) (c : ℕ) → picked_by
 unfolding picked_by
 picked_snoc p code l c = over_append (tested p code) l (c ∷ []) 0
 
-module _ (code : List ℕ) (k : Keys) (facts views : ℕ) where
+module _ (code homes : List ℕ) (n facts views : ℕ) where
   -- No slot has given anything, where the gifts of the keys, and of what has none, are wiped.
-  pub gathered_start : (gifts : List ℕ) {wiped : List ℕ} → wiped ≡ replicate (length (take (k.count + 1) gifts)) 0 → k.count < gift_room → length gifts ≡ gift_room
-      → Gathered code k (alive code facts views 0) (wiped ++ drop (k.count + 1) gifts)
+  pub gathered_start : (gifts : List ℕ) {wiped : List ℕ} → wiped ≡ replicate (length (take (n + 1) gifts)) 0 → n < gift_room → length gifts ≡ gift_room
+      → Gathered code homes n (alive code facts views 0) (wiped ++ drop (n + 1) gifts)
   unfolding alive picked_by
   gathered_start gifts {wiped} w few h =
-      let long : length wiped ≡ k.count + 1 =
-      ap length w ∙ length-replicate {A = ℕ} (length (take (k.count + 1) gifts)) 0 ∙ length-take-le (k.count + 1) gifts (omega arith) in
+      let long : length wiped ≡ n + 1 =
+      ap length w ∙ length-replicate {A = ℕ} (length (take (n + 1) gifts)) 0 ∙ length-take-le (n + 1) gifts (omega arith) in
       record {
         gifts_are = λ e low.
-            get_or-append wiped (drop (k.count + 1) gifts) 0 e (omega arith)
+            get_or-append wiped (drop (n + 1) gifts) 0 e (omega arith)
             ∙ ap (λ (l : List ℕ). get_or l e 0) w
-            ∙ get_or-replicate {A = ℕ} (length (take (k.count + 1) gifts)) e 0 0 (omega (arith, length-take-le (k.count + 1) gifts (omega arith)));
+            ∙ get_or-replicate {A = ℕ} (length (take (n + 1) gifts)) e 0 0 (omega (arith, length-take-le (n + 1) gifts (omega arith)));
         gifts_long = simp (length-append, length-drop) (omega (arith, long, h, few));
       }
 
-  module _ {gifts : List ℕ} (c : ℕ) {on : Bool} (f : Gathered code k (alive code facts views c) gifts) (e : on ≡ calm (sets_in code c) facts views) where
+  module _ {gifts : List ℕ} (c : ℕ) {on : Bool} (f : Gathered code homes n (alive code facts views c) gifts) (e : on ≡ calm (sets_in code c) facts views) where
     -- A slot that is not alive gives nothing.
-    pub gathered_same : on ≡ false → Gathered code k (alive code facts views (c + 1)) gifts
+    pub gathered_same : on ≡ false → Gathered code homes n (alive code facts views (c + 1)) gifts
     gathered_same h =
         let same : alive code facts views c ≡ alive code facts views (c + 1) = sym (alive_suc code facts views c false (sym h ∙ e) ∙ append-nil (alive code facts views c)) in
-        subst (λ (l : List ℕ). Gathered code k l gifts) same f
+        subst (λ (l : List ℕ). Gathered code homes n l gifts) same f
 
     -- A live slot gives its member at its home.
-    pub gathered_on : {home gift member : ℕ} → on ≡ true → home ≡ get_or k.homes.now c 0 → home < length gifts → member ≡ member_in code c → gift ≡ insert (get_or gifts home 0) member
-        → Gathered code k (alive code facts views (c + 1)) (set gifts home gift)
+    pub gathered_on : {home gift member : ℕ} → on ≡ true → home ≡ get_or homes c 0 → home < length gifts → member ≡ member_in code c → gift ≡ insert (get_or gifts home 0) member
+        → Gathered code homes n (alive code facts views (c + 1)) (set gifts home gift)
     gathered_on {home} {gift} {member} h q room mem g = record {
       gifts_are = λ i low. at i low (eqb home i) refl ∙ sym (more i);
       gifts_long = length-set gifts home gift ∙ f.gifts_long;
@@ -194,13 +194,13 @@ module _ (code : List ℕ) (k : Keys) (facts views : ℕ) where
         before = alive code facts views c
 
         -- The gift at i, with the slot.
-        more : (i : ℕ) → gift_of code k.homes.now i (alive code facts views (c + 1)) ≡ cond (eqb home i) (insert (gift_of code k.homes.now i before) member) (gift_of code k.homes.now i before)
+        more : (i : ℕ) → gift_of code homes i (alive code facts views (c + 1)) ≡ cond (eqb home i) (insert (gift_of code homes i before) member) (gift_of code homes i before)
         more i =
-            ap (gift_of code k.homes.now i) (alive_suc code facts views c true (sym h ∙ e))
-            ∙ picked_snoc (λ (s : ℕ). eqb (get_or k.homes.now s 0) i) code before c
-            ∙ ap₂ (λ (s m : ℕ). cond (eqb s i) (insert (gift_of code k.homes.now i before) m) (gift_of code k.homes.now i before)) (sym q) (sym mem)
+            ap (gift_of code homes i) (alive_suc code facts views c true (sym h ∙ e))
+            ∙ picked_snoc (λ (s : ℕ). eqb (get_or homes s 0) i) code before c
+            ∙ ap₂ (λ (s m : ℕ). cond (eqb s i) (insert (gift_of code homes i before) m) (gift_of code homes i before)) (sym q) (sym mem)
 
-        at : (i : ℕ) → i ≤ k.count → (t : Bool) → eqb home i ≡ t → get_or (set gifts home gift) i 0 ≡ cond (eqb home i) (insert (gift_of code k.homes.now i before) member) (gift_of code k.homes.now i before)
+        at : (i : ℕ) → i ≤ n → (t : Bool) → eqb home i ≡ t → get_or (set gifts home gift) i 0 ≡ cond (eqb home i) (insert (gift_of code homes i before) member) (gift_of code homes i before)
         at i low true v =
             let j : home ≡ i = eqb-true home i v in
             ap (λ (s : ℕ). get_or (set gifts home gift) s 0) (sym j)
@@ -208,11 +208,11 @@ module _ (code : List ℕ) (k : Keys) (facts views : ℕ) where
             ∙ g
             ∙ ap (λ (s : ℕ). insert (get_or gifts s 0) member) j
             ∙ ap (λ (x : ℕ). insert x member) (f.gifts_are i low)
-            ∙ ap (λ (t : Bool). cond t (insert (gift_of code k.homes.now i before) member) (gift_of code k.homes.now i before)) (sym v)
+            ∙ ap (λ (t : Bool). cond t (insert (gift_of code homes i before) member) (gift_of code homes i before)) (sym v)
         at i low false v =
             get_or-set_other gifts home i gift 0 (λ j. eqb-false home i v (sym j))
             ∙ f.gifts_are i low
-            ∙ ap (λ (t : Bool). cond t (insert (gift_of code k.homes.now i before) member) (gift_of code k.homes.now i before)) (sym v)
+            ∙ ap (λ (t : Bool). cond t (insert (gift_of code homes i before) member) (gift_of code homes i before)) (sym v)
 
 -- ---- gifts are looked up
 module _ (keys masks gifts : List ℕ) (joint : ℕ) where

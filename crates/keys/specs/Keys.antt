@@ -1,13 +1,14 @@
 -- The NEXT rules filed by the moves that they wait for. A rule fires where its moves are made: they are then what the joint move has of the roles that the rule names. So for
 -- each set of roles, a kind of rules, one key is looked up, and what the live rules with that key give has been gathered beforehand.
-use Rattle.std.specs.Prelude.{ℕ, zero, suc, ◌-◌, ◌*◌, ◌/◌, ◌%◌, ◌^◌, ◌≤◌, ◌<◌, max, ◌≡◌, Bool, cond, List, [], ◌∷◌, ◌++◌, eqb, get_or, length, take, set}
+use Rattle.std.specs.Prelude.{ℕ, zero, suc, ◌-◌, ◌*◌, ◌/◌, ◌%◌, ◌^◌, ◌≤◌, ◌<◌, max, ◌≡◌, Bool, cond, List, [], ◌∷◌, ◌++◌, eqb, get_or, length, take, set, replicate}
 use Rattle.std.specs.Int.Bits.{bit_and, bit_or, bit_xor}
 use Rattle.facts.specs.Bits.{has, insert}
+use Rattle.tables.specs.Lengths.{state_limit}
 use Rattle.sheet.specs.Limits.{most_moves, most_rules}
 use Rattle.rules.specs.Rules.{over}
 use Rattle.meaning.specs.Lists.{place}
 use Rattle.meaning.specs.Filling.{grown}
-use Rattle.lookup.specs.Tree.{Treed}
+use Rattle.lookup.specs.Tree.{link_limit, Treed}
 use Rattle.codes.specs.Codes.{bits, calm, stirs}
 use Rattle.codes.specs.Table.{width, word, sets_in, member_in}
 use Rattle.keys.specs.declared.Keys.{Keys}
@@ -120,40 +121,42 @@ pub record Hinted (keys hints : List ℕ) : Type 0 where
   pub low : (h : ℕ) → get_or hints h 0 ≤ length keys
   pub hints_long : length hints ≡ hint_room
 
--- The keys that are filed.
-abbrev pub keys_in : Keys → List ℕ
-keys_in k = take k.count k.keys.now
+-- The keys that are filed: so many, from the first of their table on.
+abbrev pub keys_in : (table : List ℕ) → Keys → List ℕ
+keys_in table k = take k.count table
 
 -- They can be found: they stand in their tree, and each has its hint.
-pub record Findable (k : Keys) : Type 0 where
-  pub tree : Treed k.keys.now k.count k.tree.tests k.tree.forks
-  pub hinted : Hinted (keys_in k) k.hints
+pub record Findable (table : List ℕ) (k : Keys) : Type 0 where
+  pub tree : Treed table k.count k.tree.tests k.tree.forks
+  pub hinted : Hinted (keys_in table k) k.hints
 
--- The tables are the ones that were lent.
-pub record Lent (k k' : Keys) : Type 0 where
-  pub keys : k'.keys.ghost_name ≡ k.keys.ghost_name
-  pub homes : k'.homes.ghost_name ≡ k.homes.ghost_name
+-- Nothing is filed.
+pub record Blank (k : Keys) : Type 0 where
+  pub tests : k.tree.tests ≡ replicate state_limit 0
+  pub forks : k.tree.forks ≡ replicate link_limit 0
+  pub hints : k.hints ≡ replicate hint_room 0
+  pub masks : k.masks ≡ replicate kind_room 0
 
 -- A key more, if it is new, and its place is noted in entry c.
-pub record Housed (key c : ℕ) (k k' : Keys) : Type 0 where
-  pub keys_are : keys_in k' ≡ grown (keys_in k) key
-  pub count : k'.count ≡ length (grown (keys_in k) key)
-  pub found : Findable k'
-  pub homes_are : k'.homes.now ≡ set k.homes.now c (place key (keys_in k))
-  pub keys_long : length k'.keys.now ≡ length k.keys.now
+pub record Housed (key c : ℕ) (table homes : List ℕ) (k : Keys) (table' homes' : List ℕ) (k' : Keys) : Type 0 where
+  pub keys_are : keys_in table' k' ≡ grown (keys_in table k) key
+  pub count : k'.count ≡ length (grown (keys_in table k) key)
+  pub found : Findable table' k'
+  pub homes_are : homes' ≡ set homes c (place key (keys_in table k))
+  pub keys_long : length table' ≡ length table
   pub masks_are : k'.masks ≡ k.masks
   pub kinds_are : k'.kinds ≡ k.kinds
 
 -- The keys are those of the slots below c, each slot's home is the place of its key, and each kind has its mask.
-pub record Filing (code : List ℕ) (c : ℕ) (k : Keys) : Type 0 where
-  pub found : Findable k
-  pub keys_are : keys_in k ≡ keys_of code c
+pub record Filing (code : List ℕ) (c : ℕ) (table homes : List ℕ) (k : Keys) : Type 0 where
+  pub found : Findable table k
+  pub keys_are : keys_in table k ≡ keys_of code c
   pub count : k.count ≡ length (keys_of code c)
-  pub homes_are : (i : ℕ) → i < c → get_or k.homes.now i 0 ≡ place (key_of (need_in code i)) (keys_of code c)
+  pub homes_are : (i : ℕ) → i < c → get_or homes i 0 ≡ place (key_of (need_in code i)) (keys_of code c)
   pub masks_are : (j : ℕ) → j < kind_room → get_or k.masks j 0 ≡ mask_at code c j
   pub kinds_are : k.kinds ≡ kinds_of code c
-  pub keys_long : length k.keys.now ≡ key_room
-  pub homes_long : length k.homes.now ≡ most_rules
+  pub keys_long : length table ≡ key_room
+  pub homes_long : length homes ≡ most_rules
   pub masks_long : length k.masks ≡ kind_room
 
 -- ---- once a position: what live slots give is gathered by their homes
@@ -161,18 +164,18 @@ pub record Filing (code : List ℕ) (c : ℕ) (k : Keys) : Type 0 where
 abbrev pub gift_of : List ℕ → (homes : List ℕ) → ℕ → List ℕ → ℕ
 gift_of code homes e l = picked_by (λ c. eqb (get_or homes c 0) e) code l
 
--- The gifts are, for each key and for what has none, what the slots of a list give.
-pub record Gathered (code : List ℕ) (k : Keys) (l gifts : List ℕ) : Type 0 where
-  pub gifts_are : (e : ℕ) → e ≤ k.count → get_or gifts e 0 ≡ gift_of code k.homes.now e l
+-- The gifts are, for each of n keys and for what has none, what the slots of a list give.
+pub record Gathered (code homes : List ℕ) (n : ℕ) (l gifts : List ℕ) : Type 0 where
+  pub gifts_are : (e : ℕ) → e ≤ n → get_or gifts e 0 ≡ gift_of code homes e l
   pub gifts_long : length gifts ≡ gift_room
 
--- Each slot below `to` stands in the table of codes, its member can be added to a set, and its home is no higher than the number of keys.
-pub record Homes (code : List ℕ) (to : ℕ) (k : Keys) : Type 0 where
+-- Each slot below `to` stands in the table of codes, its member can be added to a set, and its home is no higher than the number n of keys.
+pub record Homes (code : List ℕ) (to : ℕ) (homes : List ℕ) (n : ℕ) : Type 0 where
   pub inside : width * to ≤ length code
   pub members : (c : ℕ) → c < to → member_in code c < bits
-  pub homes_long : to ≤ length k.homes.now
-  pub homes_low : (c : ℕ) → c < to → get_or k.homes.now c 0 ≤ k.count
-  pub few : k.count < gift_room
+  pub homes_long : to ≤ length homes
+  pub homes_low : (c : ℕ) → c < to → get_or homes c 0 ≤ n
+  pub few : n < gift_room
 
 -- ---- once a joint move: the gifts are looked up
 -- The place of the key of what a joint move has of the roles of kind k.

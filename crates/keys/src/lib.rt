@@ -6,7 +6,7 @@ ghost use Rattle.sheet.specs.Limits.{most_rules};
 ghost use Rattle.meaning.specs.Lists.{place};
 ghost use Rattle.codes.specs.Codes.{made_by, joint_of};
 ghost use Rattle.codes.specs.Table.{width};
-ghost use Rattle.keys.specs.Keys.{own_moves, kind_of, mask_of, upper_stirred, lower_stirred, key_of, key_room, kind_room, gift_room, hint_room, keys_in, Findable, Lent, Housed, Filing, alive, Gathered, Homes, given, Remembers};
+ghost use Rattle.keys.specs.Keys.{own_moves, kind_of, mask_of, upper_stirred, lower_stirred, key_of, key_room, kind_room, gift_room, hint_room, keys_in, Findable, Blank, Housed, Filing, alive, Gathered, Homes, given, Remembers};
 
 use facts::FactSet;
 use firing::{Slot, with_member};
@@ -34,22 +34,21 @@ const ROLES: u8 = 4;
 // Half of the digits of a word, as a factor.
 const HALF: u64 = 0x100000000;
 
-// The rules, filed by the keys of the moves that they wait for: the keys in their tree, with their hints; each rule's home; the mask of each kind; how many keys there are, and
-// one more than the highest kind. The tables of keys and homes are lent. No ghost field says that the keys can be found (`Findable`): the ways of a tree are data, and a ghost
-// field holds facts alone. A hint is a place and one, 0 for none: an `Option` a hint would take twice the memory.
-#[derive(Drop)]
-pub struct Keys<'a> {
-    pub keys: &'a mut [u64],
+// How the rules are filed by the keys of the moves that they wait for: the tree of the keys and their hints, the mask of each kind, how many keys there are, and one more than the
+// highest kind. The tables of the keys and of each rule's home stand beside it and are lent to each call that needs them, to be written only where rules are filed. No ghost field
+// says that the keys can be found (`Findable`): the ways of a tree are data, and a ghost field holds facts alone. A hint is a place and one, 0 for none: an `Option` a hint would take
+// twice the memory.
+#[derive(Clone, Copy)]
+pub struct Keys {
     pub tree: Tree,
     pub hints: [u16; HINT_ROOM],
-    pub homes: &'a mut [u16],
     pub masks: [u64; KIND_ROOM],
     pub count: usize,
     pub kinds: usize,
 }
 
 // For each kind the set of moves that was asked for last, and the place of its key. Of which keys it remembers the places stands in contracts (`Remembers`): it does not hold the keys.
-#[derive(Drop)]
+#[derive(Clone, Copy)]
 pub struct Memo {
     pub asked: [u64; KIND_ROOM],
     pub places: [u16; KIND_ROOM],
@@ -152,108 +151,91 @@ fn low_of(key: u64) -> usize
     key as usize % HINT_ROOM
 }
 
-impl<'a> Keys<'a> {
+impl Keys {
+    // Nothing is filed.
+    pub fn new() -> Self
+        ensures { Blank result }
+    {
+        Self {
+            tree: Tree::new(),
+            hints: [0; HINT_ROOM],
+            masks: [0; KIND_ROOM],
+            count: 0,
+            kinds: 0,
+        }
+    }
+
     // The place of a key. Mostly a hint tells: there is none where no key has these low digits.
-    fn find(&self, key: u64) -> Option<usize>
-        requires { Findable self.now }
-        ensures { MatchOption result (place key (keys_in self.now) ≡ self.now.count)
-            (λ at. (at < self.now.count) × (place key (keys_in self.now) ≡ at)) }
+    fn find(&self, table: &[u64], key: u64) -> Option<usize>
+        requires { Findable table.now self.now }
+        ensures { MatchOption result (place key (keys_in table.now self.now) ≡ self.now.count)
+            (λ at. (at < self.now.count) × (place key (keys_in table.now self.now) ≡ at)) }
     {
         let hint = usize::from(self.hints[low_of(key)]);
         let at = hint.checked_sub(1)?;
-        if self.keys[at] == key {
+        if table[at] == key {
             return Some(at);
         }
-        self.tree.seek(self.keys, self.count, key)
+        self.tree.seek(table, self.count, key)
     }
 
     // ---- once a sheet
 
     // A key more, if it is new, and its place noted in entry c.
-    fn house(&mut self, key: u64, c: usize)
-        requires { Findable self.old × (self.old.count < key_room) × (length self.old.keys.now ≡ key_room) × (c < length self.old.homes.now) }
-        ensures lent { Lent self.old self.new }
-        ensures housed { Housed key c self.old self.new }
+    fn house(&mut self, table: &mut [u64], homes: &mut [u16], key: u64, c: usize)
+        requires { Findable table.old self.old × (self.old.count < key_room) × (length table.old ≡ key_room) × (c < length homes.old) }
+        ensures { Housed key c table.old homes.old self.old table.new homes.new self.new }
     {
-        if let Some(at) = self.find(key) {
-            self.homes[c] = at as u16;
+        if let Some(at) = self.find(table, key) {
+            homes[c] = at as u16;
             return;
         }
         let n = self.count;
-        self.homes[c] = n as u16;
-        let keys = &mut *self.keys;
-        self.tree.enroll(keys, n, key);
-        keys[n] = key;
+        homes[c] = n as u16;
+        self.tree.enroll(table, n, key);
+        table[n] = key;
         self.hints[low_of(key)] = (n + 1) as u16;
         self.count = n + 1;
     }
 
     // Slot c is filed: its key, its home, and the mask of its kind.
     #[tactic(auto, using(crate::proofs::Parts::kind_low))]
-    fn file_slot(&mut self, code: &[u64], c: usize)
-        requires { (width * (c + 1) ≤ length code.now) × (c < most_rules) × Filing code.now c self.old }
-        ensures lent { Lent self.old self.new }
-        ensures filing { Filing code.now (c + 1) self.new }
+    fn file_slot(&mut self, table: &mut [u64], homes: &mut [u16], code: &[u64], c: usize)
+        requires { (width * (c + 1) ≤ length code.now) × (c < most_rules) × Filing code.now c table.old homes.old self.old }
+        ensures { Filing code.now (c + 1) table.new homes.new self.new }
     {
         let d = code[6 * c + 4];
         let kind = kind_of(d);
         let k = kind as usize;
         self.masks[k] = mask_of(kind);
         self.kinds = self.kinds.max(k + 1);
-        self.house(key_of(d), c);
+        self.house(table, homes, key_of(d), c);
     }
 
-    // The slots below `to` are filed, in two empty tables that are lent. Not inlined, so that the tables stand once on the caller's stack.
-    #[inline(never)]
-    pub fn file(code: &[u64], to: usize, keys: &'a mut [u64], homes: &'a mut [u16]) -> Self
-        requires { (width * to ≤ length code.now) × (to ≤ most_rules) × (keys.old ≡ replicate key_room 0) × (homes.old ≡ replicate most_rules 0) }
-        ensures lent { (result.keys.ghost_name ≡ keys.entry.ghost_name) × (result.homes.ghost_name ≡ homes.entry.ghost_name) }
-        ensures filing { Filing code.now to result }
+    // The slots below `to` are filed, in two empty tables that are lent.
+    pub fn file(&mut self, code: &[u64], to: usize, table: &mut [u64], homes: &mut [u16])
+        requires { (width * to ≤ length code.now) × (to ≤ most_rules) × Blank self.old × (table.old ≡ replicate key_room 0) × (homes.old ≡ replicate most_rules 0) }
+        ensures { Filing code.now to table.new homes.new self.new }
     {
-        let mut filed = Self {
-            keys,
-            tree: Tree::new(),
-            hints: [0; HINT_ROOM],
-            homes,
-            masks: [0; KIND_ROOM],
-            count: 1,
-            kinds: 0,
-        };
-        filed.hints[0] = 1;
+        self.hints[0] = 1;
+        self.count = 1;
+        self.kinds = 0;
         for c in 0..to {
-            filed.file_slot(code, c);
-        }
-        filed
-    }
-
-    // ---- once a position
-
-    // What the slots below `to` give whose facts and views hold, gathered by their homes.
-    pub fn gather(&self, code: &[u64], to: usize, look: Look, gifts: &mut [u64])
-        requires { Homes code.now to self.now × (length gifts.old ≡ gift_room) }
-        ensures { Gathered code.now self.now (alive code.now look.facts.bits look.views.bits to) gifts.new }
-    {
-        gifts[..=self.count].fill(0);
-        for c in 0..to {
-            let slot = Slot { code, c };
-            if slot.is_calm(look.facts.bits, look.views.bits) {
-                let home = usize::from(self.homes[c]);
-                gifts[home] = with_member(gifts[home], slot.member());
-            }
+            self.file_slot(table, homes, code, c);
         }
     }
 
     // ---- once a joint move
 
     // The place of the key of a set of moves, `count` for none: that entry of the gifts stays empty. It is looked up where the set is not the one that was asked for before.
-    fn recall(&self, part: u64, k: usize, memo: &mut Memo) -> usize
-        requires { Findable self.now × (k < kind_room) × Remembers (keys_in self.now) memo.old }
-        ensures { (result ≡ place (key_of part) (keys_in self.now)) × Remembers (keys_in self.now) memo.new }
+    fn recall(&self, table: &[u64], part: u64, k: usize, memo: &mut Memo) -> usize
+        requires { Findable table.now self.now × (k < kind_room) × Remembers (keys_in table.now self.now) memo.old }
+        ensures { (result ≡ place (key_of part) (keys_in table.now self.now)) × Remembers (keys_in table.now self.now) memo.new }
     {
         if memo.asked[k] == part {
             return usize::from(memo.places[k]);
         }
-        let at = self.find(key_of(part)).unwrap_or(self.count);
+        let at = self.find(table, key_of(part)).unwrap_or(self.count);
         memo.asked[k] = part;
         memo.places[k] = at as u16;
         at
@@ -261,18 +243,35 @@ impl<'a> Keys<'a> {
 
     // What the gifts have for a joint move: for each kind that of the key of what the move has of its roles.
     #[tactic(auto, using(crate::proofs::Laws::at_low))]
-    pub fn give(&self, gifts: &[u64], joint: u64, memo: &mut Memo) -> u64
-        requires { Findable self.now × (self.now.kinds ≤ kind_room) × (self.now.count < length gifts.now)
-            × Remembers (keys_in self.now) memo.old }
-        ensures { (result ≡ given (keys_in self.now) self.now.masks gifts.now joint self.now.kinds)
-            × Remembers (keys_in self.now) memo.new }
+    pub fn give(&self, table: &[u64], gifts: &[u64], joint: u64, memo: &mut Memo) -> u64
+        requires { Findable table.now self.now × (self.now.kinds ≤ kind_room) × (self.now.count < length gifts.now)
+            × Remembers (keys_in table.now self.now) memo.old }
+        ensures { (result ≡ given (keys_in table.now self.now) self.now.masks gifts.now joint self.now.kinds)
+            × Remembers (keys_in table.now self.now) memo.new }
     {
         let mut x = 0;
         for k in 0..self.kinds {
-            let at = self.recall(self.masks[k] & joint, k, memo);
+            let at = self.recall(table, self.masks[k] & joint, k, memo);
             x |= gifts[at];
         }
         x
+    }
+}
+
+// ---- once a position
+
+// What the slots below `to` give whose facts and views hold, gathered by their homes, of which n are of keys.
+pub fn gather(code: &[u64], to: usize, look: Look, homes: &[u16], n: usize, gifts: &mut [u64])
+    requires { Homes code.now to homes.now n × (length gifts.old ≡ gift_room) }
+    ensures { Gathered code.now homes.now n (alive code.now look.facts.bits look.views.bits to) gifts.new }
+{
+    gifts[..=n].fill(0);
+    for c in 0..to {
+        let slot = Slot { code, c };
+        if slot.is_calm(look.facts.bits, look.views.bits) {
+            let home = usize::from(homes[c]);
+            gifts[home] = with_member(gifts[home], slot.member());
+        }
     }
 }
 

@@ -18,7 +18,7 @@ const FACT_LIMIT: u8 = 64;
 
 // A tree of tests: the fact that each node tests, and where each link leads. No ghost field says that it is a tree (`Forked`): its number of entries and their ways are data, and a
 // ghost field holds facts alone. A link below 1,024 leads to an entry, above to a node: an enum would take twice the memory, and zeros are the tree of one entry.
-#[derive(Drop)]
+#[derive(Clone, Copy)]
 pub struct Tree {
     pub tests: [u8; STATE_LIMIT],
     pub forks: [u16; LINK_LIMIT],

@@ -30,8 +30,16 @@ pub struct Growing<'a> {
     pub listed: usize,
 }
 
+// The rules as they are filed: the table of their keys, each rule's home, and how the keys are found.
+#[derive(Clone, Copy)]
+pub struct Filed<'a> {
+    pub table: &'a [u64],
+    pub homes: &'a [u16],
+    pub keys: &'a Keys,
+}
+
 // The room in which targets are looked up: what the rules give at one position, and what was asked for last.
-#[derive(Drop)]
+#[derive(Clone, Copy)]
 pub struct Room {
     pub gifts: [u64; GIFT_ROOM],
     pub memo: Memo,
@@ -99,13 +107,13 @@ impl Growing<'_> {
         requires numbered { Numbered state_limit (take self.old.found self.old.states.now) self.old }
         requires clean { Clean move_limit self.old.successors.now self.old.listed }
         requires room { self.old.listed + m ≤ move_limit }
-        requires serves { Serves (sheet_in targets.s.now targets.y) targets.offer targets.keys.now targets.gifts.now }
-        requires memo { Remembers (keys_in targets.keys.now) memo.old }
+        requires serves { Serves (sheet_in targets.s.now targets.y) targets.offer targets.table.now targets.keys.now targets.gifts.now }
+        requires memo { Remembers (keys_in targets.table.now targets.keys.now) memo.old }
         ensures lent { Lent self.old self.new }
         ensures rows { Rows self.old self.new }
         ensures listed { Listed state_limit move_limit (take self.old.found self.old.states.now) (take self.old.listed self.old.successors.now)
             (tabulate m (target_of (sheet_in targets.entry.s.now targets.entry.y) targets.entry.offer)) (self.old.listed + m) result self.new }
-        ensures memo { Remembers (keys_in targets.entry.keys.now) memo.new }
+        ensures memo { Remembers (keys_in targets.entry.table.now targets.entry.keys.now) memo.new }
     {
         for j in 0..m {
             let to = targets.reach(j, memo);
@@ -121,18 +129,18 @@ impl Growing<'_> {
     fn expand(
         &mut self,
         study: Study,
-        keys: &Keys,
+        filed: Filed,
         room: &mut Room,
         k: usize,
     ) -> Result<(), Refusal>
         requires ready { Ready study }
         requires inside { k < self.old.found }
         requires stage { Stage (rules_in study) (seen_in study) state_limit move_limit k self.old }
-        requires filing { Filing study.codes.now.code (get_or study.codes.now.ends 0 0) keys.now }
-        requires memo { Remembers (keys_in keys.now) room.old.memo }
+        requires filing { Filing study.codes.now.code (get_or study.codes.now.ends 0 0) filed.table.now filed.homes.now filed.keys.now }
+        requires memo { Remembers (keys_in filed.table.now filed.keys.now) room.old.memo }
         ensures lent { Lent self.old self.new }
         ensures expanded { Expanded (rules_in study.entry) (seen_in study.entry) state_limit move_limit k result self.new }
-        ensures memo { Remembers (keys_in keys.now) room.new.memo }
+        ensures memo { Remembers (keys_in filed.entry.table.now filed.entry.keys.now) room.new.memo }
     {
         let roles = study.y.sizes.roles;
         let offer = study.offer_at(self.states[k]);
@@ -146,12 +154,19 @@ impl Growing<'_> {
         note_counts(offer, roles, k, self.counts);
         self.views[k] = offer.look.views.bits;
         self.starts[k + 1] = (self.listed + m) as u16;
-        offer.gather_at(&study.codes.code, &study.codes.ends, keys, &mut room.gifts);
+        offer.gather_at(
+            &study.codes.code,
+            &study.codes.ends,
+            filed.homes,
+            filed.keys.count,
+            &mut room.gifts,
+        );
         let targets = Targets {
             s: study.s,
             y: study.y,
             offer,
-            keys,
+            table: filed.table,
+            keys: filed.keys,
             gifts: &room.gifts,
         };
         self.list_targets(targets, m, &mut room.memo)
@@ -160,17 +175,17 @@ impl Growing<'_> {
 
     // Every state is expanded, in number order. No `for`: the states that are found on the way are expanded too.
     #[tactic(auto, using(crate::proofs::Expanding::done))]
-    fn explore(&mut self, study: Study, keys: &Keys, room: &mut Room) -> Result<(), Refusal>
+    fn explore(&mut self, study: Study, filed: Filed, room: &mut Room) -> Result<(), Refusal>
         requires ready { Ready study }
         requires stage { Stage (rules_in study) (seen_in study) state_limit move_limit 0 self.old }
-        requires filing { Filing study.codes.now.code (get_or study.codes.now.ends 0 0) keys.now }
-        requires memo { Remembers (keys_in keys.now) room.old.memo }
+        requires filing { Filing study.codes.now.code (get_or study.codes.now.ends 0 0) filed.table.now filed.homes.now filed.keys.now }
+        requires memo { Remembers (keys_in filed.table.now filed.keys.now) room.old.memo }
         ensures lent { Lent self.old self.new }
         ensures explored { Explored (rules_in study.entry) (seen_in study.entry) state_limit move_limit result self.new }
     {
         let mut k = 0;
         while k < self.found {
-            self.expand(study, keys, room, k)?;
+            self.expand(study, filed, room, k)?;
             k += 1;
         }
         Ok(())
@@ -181,21 +196,21 @@ impl Growing<'_> {
         &mut self,
         x: u64,
         study: Study,
-        keys: &Keys,
+        filed: Filed,
         room: &mut Room,
     ) -> Result<Built, Refusal>
         requires long { Lengths state_limit move_limit self.old }
         requires tree { (self.old.tree.tests ≡ replicate state_limit 0) × (self.old.tree.forks ≡ replicate link_limit 0) }
         requires initial { x ≡ (rules_in study).initial }
         requires ready { Ready study }
-        requires filing { Filing study.codes.now.code (get_or study.codes.now.ends 0 0) keys.now }
-        requires memo { Remembers (keys_in keys.now) room.old.memo }
+        requires filing { Filing study.codes.now.code (get_or study.codes.now.ends 0 0) filed.table.now filed.homes.now filed.keys.now }
+        requires memo { Remembers (keys_in filed.table.now filed.keys.now) room.old.memo }
         ensures lent { Lent self.old self.new }
         ensures built { Builds (rules_in study.entry) (seen_in study.entry) state_limit move_limit result
             self.new.states.now self.new.starts.now self.new.successors.now self.new.counts.now self.new.views.now }
     {
         self.reset(x);
-        match self.explore(study, keys, room) {
+        match self.explore(study, filed, room) {
             Ok(()) => Ok(Built {
                 states: self.found,
                 moves: self.listed,

@@ -11,8 +11,8 @@ ghost use Rattle.model.specs.Answers.{Builds};
 
 mod growing;
 
-use codes::Codes;
-use growing::{Growing, Room};
+use codes::{CODE_ROOM, Codes, ENDS_ROOM};
+use growing::{Filed, Growing, Room};
 use keys::{GIFT_ROOM, KEY_ROOM, Keys, Memo, RULE_ROOM};
 use lookup::Tree;
 use offer::{Study, initial};
@@ -39,7 +39,6 @@ pub struct Built {
 
 // The reachable model of the sheet's game, whatever the tables hold; on a refusal every entry is zero.
 // The tables come one by one, as `engine::solve` is lent them.
-#[tactic(auto, using(keys::proofs::Homing::memo_start))]
 pub fn build(
     s: &[u8],
     y: Layout,
@@ -56,7 +55,11 @@ pub fn build(
     ensures { Builds (rules_of (sheet_in s.now y)) (views_of (sheet_in s.now y)) state_limit move_limit result
         states.new starts.new successors.new counts.new views.new }
 {
-    let codes = Codes::of(Rules::of(s, y.top, y.rules), masks);
+    let mut codes = Codes {
+        code: [0; CODE_ROOM],
+        ends: [0; ENDS_ROOM],
+    };
+    codes.fill(Rules::of(s, y.top, y.rules), masks);
     let study = Study {
         s,
         y,
@@ -64,14 +67,16 @@ pub fn build(
         codes: &codes,
         moves,
     };
-    let mut keys = [0; KEY_ROOM];
+    let mut table = [0; KEY_ROOM];
     let mut homes = [0; RULE_ROOM];
-    let keys = Keys::file(
-        &codes.code,
-        usize::from(codes.ends[0]),
-        &mut keys,
-        &mut homes,
-    );
+    let mut keys = Keys::new();
+    let next = usize::from(codes.ends[0]);
+    keys.file(&codes.code, next, &mut table, &mut homes);
+    let filed = Filed {
+        table: &table,
+        homes: &homes,
+        keys: &keys,
+    };
     let mut room = Room {
         gifts: [0; GIFT_ROOM],
         memo: Memo::new(),
@@ -86,5 +91,5 @@ pub fn build(
         found: 0,
         listed: 0,
     };
-    growing.fill(initial(s, y), study, &keys, &mut room)
+    growing.fill(initial(s, y), study, filed, &mut room)
 }

@@ -9,7 +9,6 @@ use lib.ListN.{length, get_or, take}
 use Rattle.sheet.specs.Limits.{most_rules}
 use Rattle.sheet.specs.Data.{Rule, Sheet}
 use Rattle.sheet.specs.Fields.{Fits}
-use Rattle.sheet.specs.Reading.{sheet_in}
 use Rattle.rules.specs.declared.Look.{Look}
 use Rattle.rules.specs.Rules.{legals_set, is_terminal}
 use Rattle.views.specs.Sheet.{reach_of, mask_at, masks_of, views_at}
@@ -30,8 +29,7 @@ use Rattle.keys.proofs.Next.{next_live}
 use Rattle.position.specs.Position.{still, look_in, moves_of, offers, offering, making, leads}
 use Rattle.position.proofs.Laws.{offering_is, leads_stay, leads_on}
 use Rattle.offer.specs.declared.Offer.{Offer}
-use Rattle.offer.specs.declared.Study.{Study}
-use Rattle.offer.specs.Offer.{Studied, Coded, Ready, Serves, offer_of, joints_of, target_of}
+use Rattle.offer.specs.Offer.{Studied, Coded, Serves, offer_of, joints_of, target_of}
 
 -- what literals are read off: facts, views, and no moves
 abbrev look_with : ℕ → ℕ → Look
@@ -42,74 +40,67 @@ pub masks_length : (d : Sheet) (masks moves : List ℕ) → Studied d masks move
 masks_length d masks moves t = ap length t.masks_are ∙ listed_length (mask_at (reach_of d.rules)) 64 1
 
 -- What `views_by` and the two walks over LEGAL and TERMINAL give is what the position offers.
-module _ {t : Study} (r : Ready t) where
-  abbrev d : Sheet
-  d = sheet_in t.s.now t.y
-
-  abbrev code : List ℕ
-  code = t.codes.now.code
-
-  abbrev ends : List ℕ
-  ends = t.codes.now.ends
-
+module _ (d : Sheet) (fit : Fits d) (masks moves code ends : List ℕ) (t : Studied d masks moves) (c : Coded d masks code ends) where
   -- the literals have their sets
   sound : AllSound d.rules
-  sound = fits_sound d r.whole.fits
+  sound = fits_sound d fit
 
-  pub levels_there : Levels code ends t.masks.now
-  levels_there = levels_are r.coded.compiled r.coded.sized
+  pub levels_there : Levels code ends masks
+  levels_there = levels_are c.compiled c.sized
 
   -- the stretches of LEGAL and of TERMINAL, with their ends as they were read
-  pub legal_there : {a b : ℕ} → a ≡ get_or ends 0 0 → b ≡ get_or ends 1 0 → Slots code a b
-  legal_there a_is b_is = rw (a_is, b_is) (legal_slots r.coded.compiled r.coded.sized)
+  module _ {a b e : ℕ} (a_is : a ≡ get_or ends 0 0) (b_is : b ≡ get_or ends 1 0) (e_is : e ≡ get_or ends 2 0) where
+    pub legal_there : Slots code a b
+    legal_there = rw (a_is, b_is) (legal_slots c.compiled c.sized)
 
-  pub terminal_there : {b e : ℕ} → b ≡ get_or ends 1 0 → e ≡ get_or ends 2 0 → Slots code b e
-  terminal_there b_is e_is = rw (b_is, e_is) (terminal_slots r.coded.compiled r.coded.sized)
+    pub terminal_there : Slots code b e
+    terminal_there = rw (b_is, e_is) (terminal_slots c.compiled c.sized)
 
-  pub offer_is : {a b e : ℕ} → a ≡ get_or ends 0 0 → b ≡ get_or ends 1 0 → e ≡ get_or ends 2 0
-      → (x : ℕ) {v legals over : ℕ} {o : Choices} → v ≡ views_by code ends x → legals ≡ collected false code x v no_moves a (b - a) 0
-      → over ≡ collected false code x v no_moves b (e - b) 0 → o ≡ offering (not (eqb over 0)) legals t.moves → ◌≡◌ {A = Offer} (record { look = look_with x v; choices = o }) (offer_of d x)
-  unfolding offer_of
-  offer_is a_is b_is e_is x {v} {legals} {over} {o} p q u h =
-      let seen : v ≡ views_at d.rules x (masks_of d.rules) =
-      p ∙ views_by_lem sound r.coded.compiled (masks_length d t.masks.now t.moves r.studied) x ∙ ap (views_at d.rules x) r.studied.masks_are in
-      let look_is : look_with x v ≡ look_in d.rules x still = ap (look_with x) seen in
-      let over_is : not (eqb over 0) ≡ is_terminal d.rules (look_with x v) =
-      ap (λ (y : ℕ). not (eqb y 0)) (u ∙ ap₂ (λ (f t : ℕ). collected false code x v no_moves f (t - f) 0) b_is e_is) ∙ terminal_by sound r.coded.compiled (look_with x v) in
-      let legals_are : legals ≡ legals_set d.rules (look_with x v) =
-      q ∙ ap₂ (λ (f t : ℕ). collected false code x v no_moves f (t - f) 0) a_is b_is ∙ legals_by sound r.coded.compiled (look_with x v) in
-      let choices_are : o ≡ offers d.rules (look_in d.rules x still) (moves_of d.rules) =
-      h ∙ offering_is d.rules (look_with x v) t.moves over_is legals_are ∙ ap₂ (offers d.rules) look_is r.studied.moves_are in
-      λ i. record { look = look_is i; choices = choices_are i }
+    pub offer_is : (x : ℕ) {v legals over : ℕ} {o : Choices} → v ≡ views_by code ends x → legals ≡ collected false code x v no_moves a (b - a) 0
+        → over ≡ collected false code x v no_moves b (e - b) 0 → o ≡ offering (not (eqb over 0)) legals moves → ◌≡◌ {A = Offer} (record { look = look_with x v; choices = o }) (offer_of d x)
+    unfolding offer_of
+    offer_is x {v} {legals} {over} {o} p q r h =
+        let seen : v ≡ views_at d.rules x (masks_of d.rules) = p ∙ views_by_lem sound c.compiled (masks_length d masks moves t) x ∙ ap (views_at d.rules x) t.masks_are in
+        let look_is : look_with x v ≡ look_in d.rules x still = ap (look_with x) seen in
+        let over_is : not (eqb over 0) ≡ is_terminal d.rules (look_with x v) =
+        ap (λ (y : ℕ). not (eqb y 0)) (r ∙ ap₂ (λ (f t : ℕ). collected false code x v no_moves f (t - f) 0) b_is e_is) ∙ terminal_by sound c.compiled (look_with x v) in
+        let legals_are : legals ≡ legals_set d.rules (look_with x v) =
+        q ∙ ap₂ (λ (f t : ℕ). collected false code x v no_moves f (t - f) 0) a_is b_is ∙ legals_by sound c.compiled (look_with x v) in
+        let choices_are : o ≡ offers d.rules (look_in d.rules x still) (moves_of d.rules) =
+        h ∙ offering_is d.rules (look_with x v) moves over_is legals_are ∙ ap₂ (offers d.rules) look_is t.moves_are in
+        λ i. record { look = look_is i; choices = choices_are i }
 
 -- What filing the codes of the NEXT rules asks.
-pub file_asks : {rs : List Rule} {masks code ends : List ℕ} → Compiled rs masks code ends → Sized code ends → (width * get_or ends 0 0 ≤ length code) × (get_or ends 0 0 ≤ most_rules)
+pub file_asks : {rs : List Rule} {masks code ends : List ℕ} → Compiled rs masks code ends → Sized code ends → (0 < length ends) × (width * get_or ends 0 0 ≤ length code) × (get_or ends 0 0 ≤ most_rules)
 file_asks c s =
     let inside = (next_slots c s).inside in
-    (inside, omega (arith, s.code_long))
+    (omega (arith, s.ends_long), inside, omega (arith, s.code_long))
 
 -- They are filed up to their end, as it was read.
-pub filing_to : {code : List ℕ} {k : Keys} {to end : ℕ} → to ≡ end → Filing code to k → Filing code end k
+pub filing_to : {code table homes : List ℕ} {k : Keys} {to end : ℕ} → to ≡ end → Filing code to table homes k → Filing code end table homes k
 filing_to e f = rw e at f
 
 -- They are filed.
-module _ {d : Sheet} {masks code ends : List ℕ} (c : Coded d masks code ends) {k : Keys} (f : Filing code (get_or ends 0 0) k) where
+module _ {d : Sheet} {masks code ends : List ℕ} (c : Coded d masks code ends) {table homes : List ℕ} {k : Keys} (f : Filing code (get_or ends 0 0) table homes k) where
   -- there are no more of them than rules
   next_few : get_or ends 0 0 ≤ most_rules
-  next_few = (file_asks c.compiled c.sized).1
+  next_few = (file_asks c.compiled c.sized).2
 
   -- what gathering asks
-  pub gather_asks : Homes code (get_or ends 0 0) k
-  gather_asks = record {
-    inside = (file_asks c.compiled c.sized).0;
-    members = λ i h. (next_slots c.compiled c.sized).members i (omega arith) h;
-    homes_long = omega (arith, next_few, f.homes_long);
-    homes_low = λ i h. omega (arith, f.homes_are i h, f.count, home_inside code (get_or ends 0 0) i h);
-    few = omega (arith, next_few, filing_room f);
-  }
+  pub gather_asks : (0 < length ends) × Homes code (get_or ends 0 0) homes k.count
+  gather_asks = (
+    (file_asks c.compiled c.sized).0,
+    record {
+      inside = (file_asks c.compiled c.sized).1;
+      members = λ i h. (next_slots c.compiled c.sized).members i (omega arith) h;
+      homes_long = omega (arith, next_few, f.homes_long);
+      homes_low = λ i h. omega (arith, f.homes_are i h, f.count, home_inside code (get_or ends 0 0) i h);
+      few = omega (arith, next_few, filing_room f);
+    },
+  )
 
   -- what is gathered serves every joint move
-  pub gathered_serves : Fits d → (o : Offer) {gifts : List ℕ} → Gathered code k (alive code o.look.facts.bits o.look.views.bits (get_or ends 0 0)) gifts → Serves d o k gifts
+  pub gathered_serves : Fits d → (o : Offer) {gifts : List ℕ} → Gathered code homes k.count (alive code o.look.facts.bits o.look.views.bits (get_or ends 0 0)) gifts → Serves d o table k gifts
   gathered_serves fit o g = record {
     found = f.found;
     few = omega (arith, f.kinds_are, kinds_few code (get_or ends 0 0));
@@ -129,9 +120,9 @@ module _ (o : Offer) where
   target_stays d j h = leads_stay d.rules o.look (four (decode (take d.sizes.roles o.choices.sets) j)) o.choices.terminal h
 
   -- else it goes by what is looked up
-  pub target_goes : (d : Sheet) (r j : ℕ) {t joint : ℕ} {m : List ℕ} {k : Keys} {gifts : List ℕ} → o.choices.terminal ≡ false → r ≡ d.sizes.roles
-      → m ≡ four (decode (take r o.choices.sets) j) → Serves d o k gifts → joint ≡ joint_of m → t ≡ given (keys_in k) k.masks gifts joint k.kinds → t ≡ target_of d o j
+  pub target_goes : (d : Sheet) (r j : ℕ) {t joint : ℕ} {m table : List ℕ} {k : Keys} {gifts : List ℕ} → o.choices.terminal ≡ false → r ≡ d.sizes.roles
+      → m ≡ four (decode (take r o.choices.sets) j) → Serves d o table k gifts → joint ≡ joint_of m → t ≡ given (keys_in table k) k.masks gifts joint k.kinds → t ≡ target_of d o j
   unfolding target_of
-  target_goes d r j {t} {joint} {m} {k} {gifts} h e f l g q =
-      leads_on d.rules o.look m o.choices.terminal t h (q ∙ ap (λ (y : ℕ). given (keys_in k) k.masks gifts y k.kinds) g ∙ l.next m)
+  target_goes d r j {t} {joint} {m} {table} {k} {gifts} h e f l g q =
+      leads_on d.rules o.look m o.choices.terminal t h (q ∙ ap (λ (y : ℕ). given (keys_in table k) k.masks gifts y k.kinds) g ∙ l.next m)
       ∙ ap (leads d.rules o.look o.choices.terminal) (f ∙ ap (λ (n : ℕ). four (decode (take n o.choices.sets) j)) e)

@@ -40,13 +40,13 @@ pub record Ready (t : Study) : Type 0 where
   pub studied : Studied (sheet_in t.s.now t.y) t.masks.now t.moves
   pub coded : Coded (sheet_in t.s.now t.y) t.masks.now t.codes.now.code t.codes.now.ends
 
--- The keys and the gifts serve every joint move of the position: what is looked up is what the NEXT rules give.
-pub record Serves (d : Sheet) (o : Offer) (k : Keys) (gifts : List ℕ) : Type 0 where
-  pub found : Findable k
+-- The keys in their table and the gifts serve every joint move of the position: what is looked up is what the NEXT rules give.
+pub record Serves (d : Sheet) (o : Offer) (table : List ℕ) (k : Keys) (gifts : List ℕ) : Type 0 where
+  pub found : Findable table k
   pub few : k.kinds ≤ kind_room
   pub masks_long : length k.masks ≡ kind_room
   pub room : k.count < length gifts
-  pub next : (m : List ℕ) → given (keys_in k) k.masks gifts (joint_of m) k.kinds ≡ next_facts d.rules (making o.look m)
+  pub next : (m : List ℕ) → given (keys_in table k) k.masks gifts (joint_of m) k.kinds ≡ next_facts d.rules (making o.look m)
 
 -- What position x offers.
 unfoldable pub offer_of : Sheet → ℕ → Offer

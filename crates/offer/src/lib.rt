@@ -11,7 +11,7 @@ use choices::{Choices, count};
 use codes::Codes;
 use facts::FactSet;
 use firing::{NO_MOVES, Scene, Stretch, views_by};
-use keys::{Keys, Memo, joint_of};
+use keys::{Keys, Memo, gather, joint_of};
 use position::choices_from;
 use rules::{Look, init_facts};
 use sheet::Layout;
@@ -35,14 +35,15 @@ pub struct Offer {
     pub choices: Choices,
 }
 
-// Where a position's joint moves are looked up: what it offers, the keys of the sheet's rules, and the gifts that were gathered for it.
+// Where a position's joint moves are looked up: what it offers, the keys of the sheet's rules and the table that they stand in, and the gifts that were gathered for it.
 // `Whole` and `Serves` stay clauses, as `Ready` does for a `Study`: their parts are data.
 #[derive(Clone, Copy)]
 pub struct Targets<'a> {
     pub s: &'a [u8],
     pub y: Layout,
     pub offer: Offer,
-    pub keys: &'a Keys<'a>,
+    pub table: &'a [u64],
+    pub keys: &'a Keys,
     pub gifts: &'a [u64],
 }
 
@@ -95,12 +96,12 @@ impl Study<'_> {
 
 impl Offer {
     // What the NEXT rules of the position give whose facts and views hold, gathered once for all its joint moves.
-    pub fn gather_at(self, code: &[u64], ends: &[u16], keys: &Keys, gifts: &mut [u64])
-        requires { (0 < length ends.now) × Homes code.now (get_or ends.now 0 0) keys.now × (length gifts.old ≡ gift_room) }
-        ensures { Gathered code.now keys.now (alive code.now self.look.facts.bits self.look.views.bits (get_or ends.now 0 0)) gifts.new }
+    pub fn gather_at(self, code: &[u64], ends: &[u16], homes: &[u16], n: usize, gifts: &mut [u64])
+        requires { (0 < length ends.now) × Homes code.now (get_or ends.now 0 0) homes.now n × (length gifts.old ≡ gift_room) }
+        ensures { Gathered code.now homes.now n (alive code.now self.look.facts.bits self.look.views.bits (get_or ends.now 0 0)) gifts.new }
     {
         let to = usize::from(ends[0]);
-        keys.gather(code, to, self.look, gifts);
+        gather(code, to, self.look, homes, n, gifts);
     }
 
     // How many joint moves there are.
@@ -130,15 +131,16 @@ impl Targets<'_> {
     // Where joint move j leads: at the end of a game, nowhere else. The memo keeps what was looked up last.
     pub fn reach(self, j: usize, memo: &mut Memo) -> u64
         requires { Whole self.s.now self.y × (j < joints_of self.offer self.y.sizes.roles)
-            × Serves (sheet_in self.s.now self.y) self.offer self.keys.now self.gifts.now × Remembers (keys_in self.keys.now) memo.old }
+            × Serves (sheet_in self.s.now self.y) self.offer self.table.now self.keys.now self.gifts.now
+            × Remembers (keys_in self.table.now self.keys.now) memo.old }
         ensures { (result ≡ target_of (sheet_in self.entry.s.now self.entry.y) self.entry.offer j)
-            × Remembers (keys_in self.entry.keys.now) memo.new }
+            × Remembers (keys_in self.entry.table.now self.entry.keys.now) memo.new }
     {
         let Offer { look, choices } = self.offer;
         if choices.terminal {
             return look.facts.bits;
         }
         let m = choices.joint_move(usize::from(self.y.sizes.roles), j as u32);
-        self.keys.give(self.gifts, joint_of(m), memo)
+        self.keys.give(self.table, self.gifts, joint_of(m), memo)
     }
 }

@@ -2,13 +2,18 @@
 use mathlib.Core.Path.{refl}
 use native.Mathlib.Omega.{arith}
 use Rattle.codes.proofs.Fits.{fits_sound}
+use Rattle.keys.proofs.Homing.{memo_start}
 use Rattle.offer.proofs.Laws.{file_asks}
 use Rattle.model.proofs.build.Goals as goal
 
-pub of-codes-requires : goal.of-codes-requires
-of-codes-requires c =
+pub fill-requires : goal.fill-requires
+fill-requires c =
     let (whole, studied, long) = c.requires in rw (c.of.ensures whole.within) (fits_sound _ whole.fits, whole.fits.few_rules, studied.masks_are)
 
-pub file-keys-requires : goal.file-keys-requires
-file-keys-requires c =
-    let asks = file_asks c.of-codes.ensures.compiled c.of-codes.ensures.sized in (omega (arith, c.from.ensures, asks.0), omega (arith, c.from.ensures, asks.1), refl, refl)
+pub file-requires : goal.file-requires
+file-requires c =
+    let asks = file_asks c.fill.ensures.compiled c.fill.ensures.sized in
+    (omega (arith, c.from-next.ensures, asks.1), omega (arith, c.from-next.ensures, asks.2), c.new-keys.ensures, refl, refl)
+
+pub fill-requires-2-clause-memo : goal.fill-requires-2-clause-memo
+fill-requires-2-clause-memo c = memo_start c.file.ensures c.new.ensures.asked c.new.ensures.places

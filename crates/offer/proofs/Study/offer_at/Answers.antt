@@ -5,14 +5,14 @@ use Rattle.offer.proofs.Laws.{levels_there, legal_there, terminal_there, offer_i
 use Rattle.offer.proofs.Study.offer_at.Goals as goal
 
 pub views_by-v-requires : goal.views_by-v-requires
-views_by-v-requires c = levels_there c.requires
+views_by-v-requires c = levels_there _ c.requires.whole.fits _ _ _ _ c.requires.studied c.requires.coded
 
 pub invariant_of-collect : goal.invariant_of-collect
-invariant_of-collect c = record { slots = legal_there c.requires c.from-next.ensures c.from-legal.ensures }
+invariant_of-collect c = record { slots = legal_there _ c.requires.whole.fits _ _ _ _ c.requires.studied c.requires.coded c.from-next.ensures c.from-legal.ensures c.from-terminal.ensures }
 
 pub invariant_of-collect-2 : goal.invariant_of-collect-2
-invariant_of-collect-2 c = record { slots = terminal_there c.requires c.from-legal.ensures c.from-terminal.ensures }
+invariant_of-collect-2 c = record { slots = terminal_there _ c.requires.whole.fits _ _ _ _ c.requires.studied c.requires.coded c.from-next.ensures c.from-legal.ensures c.from-terminal.ensures }
 
 pub returns : goal.returns
 unfolding joint_of insert
-returns c = offer_is c.requires c.from-next.ensures c.from-legal.ensures c.from-terminal.ensures _ c.views_by-v.ensures c.collect-legals.ensures c.collect-over.ensures c.choices_from.ensures
+returns c = offer_is _ c.requires.whole.fits _ _ _ _ c.requires.studied c.requires.coded c.from-next.ensures c.from-legal.ensures c.from-terminal.ensures _ c.views_by-v.ensures c.collect-legals.ensures c.collect-over.ensures c.choices_from.ensures

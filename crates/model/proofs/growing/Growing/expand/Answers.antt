@@ -25,7 +25,8 @@ pub bounds-self-k-3 : goal.bounds-self-k-3
 bounds-self-k-3 c = omega (arith, holds_length c.requires.stage.starts_hold, c.requires.inside, c.requires.stage.numbered.holds.room)
 
 pub gather_at-requires : goal.gather_at-requires
-gather_at-requires c = (omega arith, gather_asks c.requires.ready.coded c.requires.filing, omega arith)
+gather_at-requires c =
+    let asks = gather_asks c.requires.ready.coded c.requires.filing in (asks.0, asks.1, omega arith)
 
 pub list_targets-requires-clause-numbered : goal.list_targets-requires-clause-numbered
 list_targets-requires-clause-numbered c = record { holds = holds_clean c.requires.stage.numbered.holds; treed = c.requires.stage.numbered.treed }

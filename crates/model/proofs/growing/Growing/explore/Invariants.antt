@@ -9,7 +9,7 @@ abbrev pub invariant-loop-k : goal.invariant-loop-k
 invariant-loop-k l = record {
   lent : Lent l.initial.self l.self;
   stage : Stage (rules_in l.study) (seen_in l.study) state_limit move_limit l.k l.self;
-  memo : Remembers (keys_in l.keys) l.room.memo;
+  memo : Remembers (keys_in l.filed.table.now l.filed.keys.now) l.room.memo;
 }
 
 abbrev pub decreases-loop-k : goal.decreases-loop-k

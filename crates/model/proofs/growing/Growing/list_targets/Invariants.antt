@@ -15,5 +15,5 @@ invariant-loop-j l = record {
   rows : Rows l.initial.self l.self;
   going : Going state_limit move_limit (take l.initial.self.found l.initial.self.states.now) (take l.initial.self.listed l.initial.self.successors.now) l.initial.self.listed
       (tabulate l.m (target_of (sheet_in l.targets.s.now l.targets.y) l.targets.offer)) l.j l.self;
-  memo : Remembers (keys_in l.targets.keys.now) l.memo;
+  memo : Remembers (keys_in l.targets.table.now l.targets.keys.now) l.memo;
 }
