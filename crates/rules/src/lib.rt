@@ -5,7 +5,7 @@ ghost use Rattle.std.specs.Prelude.{◌≡◌, unwrap_or};
 ghost use Rattle.sheet.specs.Records.{literals, rule_of, rules_of};
 ghost use Rattle.rules.specs.declared.Ask.TheVariants.{Legals};
 ghost use Rattle.rules.specs.Meaning.{doing, holds};
-ghost use Rattle.rules.specs.Rules.{fires, over, member_of, seen_by, added, gathered, does_of, does_set, is_terminal, is_goal, init_facts};
+ghost use Rattle.rules.specs.Rules.{fires, over, member_of, kind_of, seen_by, added, gathered, does_of, does_set, is_terminal, is_goal, init_facts};
 
 use facts::FactSet;
 use sheet::kinds::{DOES, GOAL, INIT, LEGAL, NEXT, NOT_TRUE, NOT_VIEW, TERMINAL, TRUE, VIEW};
@@ -102,6 +102,20 @@ pub fn member(q: Ask, head: Part) -> Option<u8>
     }
 }
 
+// The kind of the heads that are asked for.
+fn kind_of(q: Ask) -> u8
+    ensures { result ≡ kind_of q }
+{
+    match q {
+        Ask::Init => INIT,
+        Ask::Next => NEXT,
+        Ask::View(_) => VIEW,
+        Ask::Legal(_) | Ask::Legals => LEGAL,
+        Ask::Goal(_, _) => GOAL,
+        Ask::Terminal => TERMINAL,
+    }
+}
+
 // The views that literals are read off: while views are gathered, those gathered so far.
 pub fn seen(q: Ask, views: FactSet, x: FactSet) -> FactSet
     ensures { result.bits ≡ seen_by q views.bits x.bits }
@@ -127,14 +141,17 @@ pub fn adds(rule: Rule, q: Ask, k: Look, x: FactSet) -> FactSet
 
 // ---- once over the rules
 
-// `start`, with what all rules add.
+// `start`, with what all rules add. One test passes over a rule whose head is of another kind.
 #[tactic(auto, unfolding(crate::specs::Rules::gathered))]
 pub fn gather(rules: Rules, q: Ask, k: Look, start: FactSet) -> FactSet
     ensures { result.bits ≡ gathered q k (rules_of rules.entry) start.bits }
 {
+    let kind = kind_of(q);
     let mut x = start;
     for rule in rules {
-        x = adds(rule, q, k, x);
+        if rule.head.kind == kind {
+            x = adds(rule, q, k, x);
+        }
     }
     x
 }

@@ -1,7 +1,7 @@
 // The views of the lent sheet: which views each leads to, the views of each level, and refusal 5.
 #![tactic(auto)]
 
-ghost use Rattle.std.specs.Prelude.{◌≡◌, ◌&&◌, ◌<◌, map, get_or, eqb};
+ghost use Rattle.std.specs.Prelude.{◌≡◌, ℕ, [], ◌&&◌, ◌<◌, map, get_or, eqb};
 ghost use Rattle.facts.specs.Bits.{has};
 ghost use Rattle.sheet.specs.Records.{literals, rule_of, rules_of};
 ghost use Rattle.rules.specs.Kinds as kind;
@@ -57,25 +57,34 @@ pub fn rule_row(rule: Rule, v: u8, x: FactSet) -> FactSet
     }
 }
 
-// The view v, and the views that its rules name.
-#[tactic(auto, using(crate::proofs::Lists::over_views), unfolding(crate::specs::Reference::row))]
-pub fn row_of(rules: Rules, v: u8) -> FactSet
-    requires { v < 64 }
-    ensures { result.bits ≡ row 64 (view_rules (rules_of rules.entry)) v }
+// The rows where no rule names a view: each view leads to itself.
+#[tactic(auto, unfolding(crate::specs::Reference::row))]
+fn own_rows(q: &mut [u64; 64])
+    ensures { (v : ℕ) → v < 64 → get_or q.new v 0 ≡ row 64 [] v }
 {
-    let mut x = FactSet::default().with(v);
-    for rule in rules {
-        x = rule_row(rule, v, x);
+    for v in 0..MOST_VIEWS {
+        q[usize::from(v)] = u64::from(FactSet::default().with(v));
     }
-    x
 }
 
-// A row for each view.
+// The rows, with the views that the rule names in the row of its head.
+fn name_rule(rule: Rule, q: &mut [u64; 64])
+    ensures { (v : ℕ) → v < 64 → get_or q.new v 0 ≡ viewed (row_of 64 v) (rule_of rule.entry) (get_or q.old v 0) }
+{
+    let v = rule.head.a;
+    if rule.head.kind == VIEW && v < MOST_VIEWS {
+        let row = FactSet::from(q[usize::from(v)]);
+        q[usize::from(v)] = u64::from(rule_row(rule, v, row));
+    }
+}
+
+// A row for each view: the view, and the views that its rules name. Each rule is visited once.
 pub fn rows_of(rules: Rules, q: &mut [u64; 64])
     ensures { q.new ≡ rows 64 (view_rules (rules_of rules.entry)) }
 {
-    for v in 0..MOST_VIEWS {
-        q[usize::from(v)] = u64::from(row_of(rules, v));
+    own_rows(q);
+    for rule in rules {
+        name_rule(rule, q);
     }
 }
 
