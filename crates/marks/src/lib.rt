@@ -10,7 +10,7 @@ ghost use Rattle.incoming.specs.Leads.{Leads};
 ghost use Rattle.marking.specs.Table.{side};
 ghost use Rattle.marking.specs.Board.{game_of, aimed, passable};
 ghost use Rattle.marking.specs.Rule.{bits};
-ghost use Rattle.marks.specs.Noted.{noted};
+ghost use Rattle.marks.specs.Noted.{noted, NotedBy};
 ghost use Rattle.marks.specs.Model.{joints_limit};
 ghost use Rattle.marks.specs.Node.{timed};
 ghost use Rattle.backward.specs.Covered.{Covered};
@@ -42,7 +42,8 @@ pub fn mark(marks: &mut [u64], k: u8, i: usize, on: bool)
 // n, k and the table stay three parameters: each caller has them apart, and reads other bits of the same table.
 pub fn note<F: Fn(usize, FactSet) -> bool>(n: usize, k: u8, marks: &mut [u64], test: F)
     requires { (n ≤ length marks.old) × (k < 64) × ((i : ℕ) (set : _) → i < n → F.pre test i set) }
-    ensures { (w : States) → ((i : ℕ) (on : Bool) → i < n → F.post test i (record { bits = get_or marks.old i 0 }) on → on ≡ w i) → marks.new ≡ noted n k w marks.old }
+    ensures set { (w : States) → ((i : ℕ) (on : Bool) → i < n → F.post test i (record { bits = get_or marks.old i 0 }) on → on ≡ w i) → marks.new ≡ noted n k w marks.old }
+    ensures answered { NotedBy (λ i on. F.post test i (record { bits = get_or marks.old i 0 }) on) n k marks.old marks.new }
 {
     for i in 0..n {
         let on = test(i, FactSet::from(marks[i]));
