@@ -100,14 +100,19 @@ module _ (n : ℕ) (starts successors classes : List ℕ) (s : Tables n starts s
         ∙ ap (λ y. eqb y 0 && spared successors classes w first count (get_or classes (first + j) 0)) z
         ∙ rw (a, b)
 
-    -- the first class of them that is not struck out is that of the lowest choice
-    pub first_clean_lem : (xs : List ℕ) → length xs ≡ count → ((j : ℕ) → j < count → get_or xs j 0 ≡ get_or classes (first + j) 0)
+    pub first_clean_lem : first_of count (clean classes flags first) ≡ first_of (G.moves i) (secures G w i)
+    unfolding first_of
+    first_clean_lem = ap (found_of count) (lowest_cong count _ _ clean_secures) ∙ rw b
+
+    -- the first of a list of those classes that is not struck out is that of the lowest choice
+    pub clean_position : (xs : List ℕ) → length xs ≡ count → ((j : ℕ) → j < count → get_or xs j 0 ≡ get_or classes (first + j) 0)
         → position (λ c. eqb (get_or flags c 0) 0) xs ≡ first_of (G.moves i) (secures G w i)
     unfolding first_of
-    first_clean_lem xs d e =
+    clean_position xs d e =
         position_first (λ c. eqb (get_or flags c 0) 0) xs
         ∙ ap (λ k. found_of k (lowest k (λ j. eqb (get_or flags (get_or xs j 0) 0) 0))) d
-        ∙ ap (found_of count) (lowest_cong count _ _ (λ j m. ap (λ c. eqb (get_or flags c 0) 0) (e j m) ∙ clean_secures j m)) ∙ rw b
+        ∙ ap (found_of count) (lowest_cong count _ _ (λ j m. ap (λ c. eqb (get_or flags c 0) 0) (e j m)))
+        ∙ first_clean_lem
 
 -- whether something was found
 pub first_found : (n : ℕ) (p : ℕ → Bool) (j : ℕ) → first_of n p ≡ Some j → (some< n p ≡ true) × (lowest n p ≡ j)

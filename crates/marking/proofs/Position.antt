@@ -17,7 +17,7 @@ use Rattle.marking.specs.Flags.{cleared, strike, strikes, first_of}
 use Rattle.std.specs.Prelude.{Option, Some, None, position}
 use Rattle.std.specs.Option.{is_some, unwrap_or}
 use Rattle.std.proofs.lemmas.List.{get_or-take, get_or-drop}
-use Rattle.marking.proofs.Flags.{first_clean_lem, first_found, first_none}
+use Rattle.marking.proofs.Flags.{clean_position, first_found, first_none}
 
 -- in range, no default is read
 pub get_d_default {ℓ} : {A : Type ℓ} (l : List A) (i : ℕ) (d e : A) → i < length l → get_or l i d ≡ get_or l i e
@@ -75,7 +75,7 @@ found_is {n} {starts} {successors} {classes} s i h first last p q w l flags x ro
     let a = places_in s i h first last p q in
     let z : moves_at starts i ≡ last - first = omega arith in
     f ∙ ap (λ (u : List ℕ). position (λ c. eqb (get_or u c 0) 0) (take (last - first) (drop first classes))) e
-    ∙ first_clean_lem n starts successors classes s w i h l (get_or starts i 0) (moves_at starts i) refl refl (omega arith)
+    ∙ clean_position n starts successors classes s w i h l (get_or starts i 0) (moves_at starts i) refl refl (omega arith)
     (take (last - first) (drop first classes)) (omega (arith, length-take (last - first) (drop first classes), length-drop first classes))
     (λ j g. get_or-take (last - first) (drop first classes) j 0 (omega arith) ∙ get_or-drop first classes j 0 ∙ ap (λ (y : ℕ). get_or classes (y + j) 0) p)
 
