@@ -1,11 +1,11 @@
 // What the rules of the lent sheet give at a position: one literal, one body, one loop over the rules.
 #![tactic(auto)]
 
-ghost use Rattle.std.specs.Prelude.{◌≡◌, unwrap_or};
+ghost use Rattle.std.specs.Prelude.{◌≡◌, is_some, unwrap_or};
 ghost use Rattle.sheet.specs.Records.{literals, rule_of, rules_of};
 ghost use Rattle.rules.specs.declared.Ask.TheVariants.{Legals};
 ghost use Rattle.rules.specs.Meaning.{doing, holds};
-ghost use Rattle.rules.specs.Rules.{fires, over, member_of, kind_of, seen_by, added, gathered, does_of, does_set, is_terminal, is_goal, init_facts};
+ghost use Rattle.rules.specs.Rules.{fires, over, asked, member_of, kind_of, seen_by, added, gathered, does_of, does_set, is_terminal, is_goal, init_facts};
 
 use facts::FactSet;
 use sheet::kinds::{DOES, GOAL, INIT, LEGAL, NEXT, NOT_TRUE, NOT_VIEW, TERMINAL, TRUE, VIEW};
@@ -76,7 +76,8 @@ pub fn body_holds(body: Body, k: Look) -> bool
 
 // The place of a role's move among those of all roles, where the head is LEGAL of a role and a move. 64 stands for none in `member_of`, a definition, which keeps its meaning.
 pub fn place(head: Part) -> Option<u8>
-    ensures { unwrap_or result 64 ≡ member_of Legals head }
+    ensures member { unwrap_or result 64 ≡ member_of Legals head }
+    ensures some { is_some result ≡ asked Legals head }
 {
     let Part { kind, a, b } = head;
     if kind == LEGAL && a < MOST_ROLES && b < MOST_MOVES {
@@ -88,7 +89,8 @@ pub fn place(head: Part) -> Option<u8>
 
 // The member for which a head stands in the set that is asked for; a field of 64 or more is a member of no set.
 pub fn member(q: Ask, head: Part) -> Option<u8>
-    ensures { unwrap_or result 64 ≡ member_of q head }
+    ensures member { unwrap_or result 64 ≡ member_of q head }
+    ensures some { is_some result ≡ asked q head }
 {
     let Part { kind, a, b } = head;
     match q {
