@@ -16,7 +16,7 @@ use Rattle.facts.specs.Sets.{le_or_lt}
 use Rattle.rules.specs.Rules.{over}
 use Rattle.meaning.specs.Lists.{place}
 use Rattle.meaning.specs.Filling.{grown}
-use Rattle.lookup.specs.Tree.{Enrolled}
+use Rattle.lookup.specs.Tree.{Treed, Enrolled}
 use Rattle.lookup.specs.declared.Tree.{Tree}
 use Rattle.lookup.proofs.Place.{place_le, place_here}
 use Rattle.lookup.proofs.Seeking.{place_own}
@@ -57,31 +57,31 @@ module _ (kind : ℕ) where
   moves_more r = ap (moves_in kind) (add-one r)
 
 -- ---- a key comes in
-module _ {table : List ℕ} {k : Keys} (f : Findable table k) where
-  -- The list has as many keys as there are.
-  pub keys_count : length (keys_in table k) ≡ k.count
-  keys_count = length-take-le k.count table f.tree.inside
+-- There are n keys.
+keys_count : {keys tests forks : List ℕ} {n : ℕ} → Treed keys n tests forks → length (take n keys) ≡ n
+keys_count {keys} {n = n} t = length-take-le n keys t.inside
 
-  -- A place is no higher than their number.
-  pub at_low : (key : ℕ) → place key (keys_in table k) ≤ k.count
-  at_low key = omega (arith, place_le key (keys_in table k), keys_count)
+-- A place is no higher than their number.
+pub at_low : (key : ℕ) {keys tests forks : List ℕ} {n at : ℕ} → Treed keys n tests forks → at ≡ place key (take n keys) → at ≤ n
+at_low key {keys} {n = n} t e = omega (arith, place_le key (take n keys), keys_count t)
 
-  -- A hint names a key.
-  pub hint_low : (h : ℕ) → get_or k.hints h 0 ≤ k.count
-  hint_low h = omega (arith, f.hinted.low h, keys_count)
+-- Where there is no hint, there is no such key.
+pub find_none : (key : ℕ) {keys tests forks hints : List ℕ} {n low hint : ℕ} → Treed keys n tests forks → Hinted (take n keys) hints → low ≡ key % hint_room → hint ≡ get_or hints low 0 → hint ≡ 0
+    → n ≡ place key (take n keys)
+find_none key {keys} {hints = hints} {n} t f p e z = ⊎_elim
+    (λ h. omega (arith, place_le key (take n keys), keys_count t))
+    (λ h.
+    let inside : place key (take n keys) < length (take n keys) = omega (arith, keys_count t) in
+    absurd (f.there (place key (take n keys)) inside (ap (λ (x : ℕ). get_or hints (x % hint_room) 0) (place_here key (take n keys) inside) ∙ sym (ap (λ (i : ℕ). get_or hints i 0) p) ∙ sym e ∙ z)))
+    (le_or_lt n (place key (take n keys)))
 
-  -- Where there is no hint, there is no such key.
-  pub find_none : (key : ℕ) {low : ℕ} → low ≡ key % hint_room → get_or k.hints low 0 ≡ 0 → place key (keys_in table k) ≡ k.count
-  find_none key p z = ⊎_elim
-      (λ h. omega (arith, at_low key))
-      (λ h.
-      let inside : place key (keys_in table k) < length (keys_in table k) = omega (arith, keys_count) in
-      absurd (f.hinted.there (place key (keys_in table k)) inside (ap (λ (x : ℕ). get_or k.hints (x % hint_room) 0) (place_here key (keys_in table k) inside) ∙ sym (ap (λ (i : ℕ). get_or k.hints i 0) p) ∙ z)))
-      (le_or_lt k.count (place key (keys_in table k)))
+-- A hint names a key.
+pub hint_low : {keys tests forks hints : List ℕ} {n hint : ℕ} (h : ℕ) → Treed keys n tests forks → Hinted (take n keys) hints → hint ≡ get_or hints h 0 → hint ≤ n
+hint_low h t f e = omega (arith, f.low h, keys_count t)
 
-  -- If a key is the one that is looked for, its place is found.
-  pub find_here : {key at : ℕ} → at < k.count → get_or table at 0 ≡ key → place key (keys_in table k) ≡ at
-  find_here h e = ap (λ (x : ℕ). place x (keys_in table k)) (sym e) ∙ place_own f.tree _ h
+-- If it is the one that is looked for, its place is found.
+pub find_here : (key : ℕ) {keys tests forks : List ℕ} {n at : ℕ} → Treed keys n tests forks → at < n → get_or keys at 0 ≡ key → at ≡ place key (take n keys)
+find_here key {keys} {n = n} {at} t h e = sym (ap (λ (x : ℕ). place x (take n keys)) (sym e) ∙ place_own t at h)
 
 -- One hint more.
 hinted_more : {keys hints : List ℕ} (key : ℕ) → Hinted keys hints → Hinted (keys ++ (key ∷ [])) (set hints (key % hint_room) (length keys + 1))
@@ -125,12 +125,12 @@ module _ {table : List ℕ} {k : Keys} (f : Findable table k) (key c : ℕ) (hom
       → Housed key c table homes k (set table k.count key) (set homes c k.count) (record k { tree = tree; hints = set k.hints low (k.count + 1); count = k.count + 1 })
   housed_new {low = low} e room tree p =
       let more : keys_in table k ++ (key ∷ []) ≡ grown (keys_in table k) key =
-      sym (ap (λ (b : Bool). cond b (keys_in table k) (keys_in table k ++ (key ∷ []))) (le-ltb (place key (keys_in table k)) (length (keys_in table k)) (omega (arith, keys_count f)))) in
+      sym (ap (λ (b : Bool). cond b (keys_in table k) (keys_in table k ++ (key ∷ []))) (le-ltb (place key (keys_in table k)) (length (keys_in table k)) (omega (arith, keys_count f.tree)))) in
       let taken : take (k.count + 1) (set table k.count key) ≡ keys_in table k ++ (key ∷ []) = ap (λ (i : ℕ). take i (set table k.count key)) (add-one k.count) ∙ take-suc-set table k.count key room in
-      let hint_is : length (keys_in table k) + 1 ≡ k.count + 1 = ap (λ (i : ℕ). i + 1) (keys_count f) in
+      let hint_is : length (keys_in table k) + 1 ≡ k.count + 1 = ap (λ (i : ℕ). i + 1) (keys_count f.tree) in
       record {
         keys_are = taken ∙ more;
-        count = omega (arith, keys_count f, length-append (keys_in table k) (key ∷ []), ap length more);
+        count = omega (arith, keys_count f.tree, length-append (keys_in table k) (key ∷ []), ap length more);
         found = record {
           tree = tree (set table k.count key) (omega (arith, length-set table k.count key)) (λ i q. get_or-set_other table k.count i key 0 (λ e. omega arith)) (get_or-set_same table k.count key 0 room);
           hinted = subst (λ (l : List ℕ). Hinted l (set k.hints low (k.count + 1))) (sym taken)

@@ -154,7 +154,8 @@ fn low_of(key: u64) -> usize
 impl Keys {
     // Nothing is filed.
     pub fn new() -> Self
-        ensures { Blank result }
+        ensures blank { Blank result }
+        ensures none { (result.count ≡ 0) × (result.kinds ≡ 0) }
     {
         Self {
             tree: Tree::new(),
@@ -242,7 +243,6 @@ impl Keys {
     }
 
     // What the gifts have for a joint move: for each kind that of the key of what the move has of its roles.
-    #[tactic(auto, using(crate::proofs::Laws::at_low))]
     pub fn give(&self, table: &[u64], gifts: &[u64], joint: u64, memo: &mut Memo) -> u64
         requires { Findable table.now self.now × (self.now.kinds ≤ kind_room) × (self.now.count < length gifts.now)
             × Remembers (keys_in table.now self.now) memo.old }
@@ -260,7 +260,7 @@ impl Keys {
 
 // ---- once a position
 
-// What the slots below `to` give whose facts and views hold, gathered by their homes, of which n are of keys.
+// What the slots below `to` give whose facts and views hold, gathered by their homes; n is the number of keys. Homes and number stay two parameters: whoever gathers lends no keys.
 pub fn gather(code: &[u64], to: usize, look: Look, homes: &[u16], n: usize, gifts: &mut [u64])
     requires { Homes code.now to homes.now n × (length gifts.old ≡ gift_room) }
     ensures { Gathered code.now homes.now n (alive code.now look.facts.bits look.views.bits to) gifts.new }

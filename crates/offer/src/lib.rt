@@ -95,7 +95,7 @@ impl Study<'_> {
 }
 
 impl Offer {
-    // What the NEXT rules of the position give whose facts and views hold, gathered once for all its joint moves.
+    // What the NEXT rules of the position give whose facts and views hold, gathered once for all its joint moves. Homes and their number stay two parameters, as in `keys::gather`.
     pub fn gather_at(self, code: &[u64], ends: &[u16], homes: &[u16], n: usize, gifts: &mut [u64])
         requires { (0 < length ends.now) × Homes code.now (get_or ends.now 0 0) homes.now n × (length gifts.old ≡ gift_room) }
         ensures { Gathered code.now homes.now n (alive code.now self.look.facts.bits self.look.views.bits (get_or ends.now 0 0)) gifts.new }

@@ -13,7 +13,7 @@ fill-requires c =
 pub file-requires : goal.file-requires
 file-requires c =
     let asks = file_asks c.fill.ensures.compiled c.fill.ensures.sized in
-    (omega (arith, c.from-next.ensures, asks.1), omega (arith, c.from-next.ensures, asks.2), c.new-keys.ensures, refl, refl)
+    (omega (arith, c.from-next.ensures, asks.1), omega (arith, c.from-next.ensures, asks.2), c.new-keys.ensures.blank, refl, refl)
 
 pub fill-requires-2-clause-memo : goal.fill-requires-2-clause-memo
 fill-requires-2-clause-memo c = memo_start c.file.ensures c.new.ensures.asked c.new.ensures.places
