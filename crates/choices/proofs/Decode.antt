@@ -61,7 +61,7 @@ module _ (ss : List ℕ) (j p w rest : ℕ) (out : List ℕ) (h : p < length ss)
         tail = ap (λ (y : ℕ). drop (p + 1) (set out p y)) f ∙ tail';
       }
 
--- the same in the code's terms: the sets are the first `roles` of four, and n is what the count of ones gave
+-- the same where the sets are the first `roles` of four, and n is what the count of ones gave
 module _ (sets : List ℕ) (roles j p w rest n : ℕ) (out : List ℕ) (long : length sets ≡ 4) (few : roles ≤ 4) (h : p < roles)
     (m : Mid (take roles sets) j p w rest out) (counted : n ≡ length (members (get_or sets p 0))) where
   roles_is : length (take roles sets) ≡ roles
