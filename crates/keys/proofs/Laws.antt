@@ -58,7 +58,7 @@ module _ (kind : ℕ) where
 
 -- ---- a key comes in
 -- There are n keys.
-keys_count : {keys tests forks : List ℕ} {n : ℕ} → Treed keys n tests forks → length (take n keys) ≡ n
+pub keys_count : {keys tests forks : List ℕ} {n : ℕ} → Treed keys n tests forks → length (take n keys) ≡ n
 keys_count {keys} {n = n} t = length-take-le n keys t.inside
 
 -- A place is no higher than their number.
